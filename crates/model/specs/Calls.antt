@@ -1,0 +1,49 @@
+-- The other calls on a table: a new table, a run until an interrupt, a look at the read page.
+use mathlib.Core.Path.{_≡_}
+use mathlib.Core.Logic.{_⊎_}
+use mathlib.Core.Bool.{Bool, true, false, cond, not}
+use mathlib.Core.List.{List, [], _∷_, _++_}
+use Prim.Native.Nat.{ℕ, zero, suc, _-_, _≤_, _<_, min}
+use lib.ListN.{length, take, drop, replicate}
+use Rattle.model.specs.Controller.{pageSize, Table, new, readPage}
+use Rattle.model.specs.RegisterRule.{isReady, interrupts}
+use Rattle.model.specs.Operations.{bitTime, at, sized, firstOf, refusesController, putInto, done}
+
+-- ---- a new table
+
+-- 1: a table of 0 or more than 16 places
+unfoldable pub refusesNew : Table → ℕ
+refusesNew t = cond (sized t) 0 1
+
+unfoldable pub newTable : ℕ → Table
+newTable n = replicate n new
+
+-- ---- run
+
+unfoldable pub refusesRun : ℕ → Table → ℕ
+refusesRun k t = firstOf (refusesController k t)
+
+-- n unpulled bit times
+abbrev pub later : ℕ → Table → Table
+later zero t = t
+later (suc n) t = later n (done (bitTime false) t)
+
+-- n is the least number of unpulled bit times after which controller k's INT_N is low, or the limit if that comes first
+pub record Runs (k limit : ℕ) (t : Table) (n : ℕ) : Type 0 where
+  pub within : n ≤ limit
+  pub stops : (interrupts (at (later n t) k) ≡ true) ⊎ (n ≡ limit)
+  pub least : (m : ℕ) → m < n → interrupts (at (later m t) k) ≡ false
+
+-- ---- look
+
+-- 9: no page ready
+unfoldable pub refusesLook : ℕ → Table → ℕ
+refusesLook k t = firstOf (refusesController k t ++ ((not (isReady (at t k .rx .ring)), 9) ∷ []))
+
+-- the bytes of the read page from a place on, until a buffer of so many places is full or place 255 was read
+unfoldable pub looked : ℕ → ℕ → Table → ℕ → List ℕ
+looked k place t buffer = take (min buffer (pageSize - place)) (drop place (readPage (at t k .rx .ring) .bytes))
+
+-- the buffer after a look, from its place 0 on; the table stays
+unfoldable pub bufferLooked : ℕ → ℕ → Table → List ℕ → List ℕ
+bufferLooked k place t buffer = putInto buffer 0 (looked k place t (length buffer))

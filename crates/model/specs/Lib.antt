@@ -1,0 +1,17 @@
+pub mod Bits
+pub mod Crc
+pub mod Levels
+pub mod Arbitration
+pub mod Frames
+pub mod Reading
+pub mod Filter
+pub mod Registers
+pub mod Controller
+pub mod RegisterRule
+pub mod BitTime
+pub mod Operations
+pub mod Wires
+pub mod Calls
+pub mod Histories
+pub mod Codec
+pub mod FloorChecks
