@@ -53,6 +53,10 @@ bits-number [] = refl
 bits-number (b ∷ bs) =
     ap₂ (λ x xs. x ∷ xs) (odd-bit (number bs) b) (ap (bits (length bs)) (half-bit (number bs) b) ∙ bits-number bs)
 
+-- lists of bits of one length that write the same number are the same
+pub number-apart : (u v : List Bool) → length u ≡ length v → number u ≡ number v → u ≡ v
+number-apart u v l e = sym (bits-number u) ∙ ap₂ bits l e ∙ bits-number v
+
 pub number-lt : (bs : List Bool) → number bs < 2 ^ length bs
 unfolding number
 number-lt [] = omega arith

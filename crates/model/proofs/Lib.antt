@@ -1,1 +1,4 @@
 pub mod Bits
+pub mod CrcRegister
+pub mod CrcBurst
+pub mod Arbitration
