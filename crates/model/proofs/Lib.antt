@@ -2,3 +2,5 @@ pub mod Bits
 pub mod CrcRegister
 pub mod CrcBurst
 pub mod Arbitration
+pub mod Levels
+pub mod FloorChecks
