@@ -2,7 +2,7 @@
 use mathlib.Core.Path.{_≡_, refl, sym, ap, ap₂, _∙_, subst}
 use mathlib.Core.Bool.{Bool, true, false, cond, _&&_}
 use mathlib.Core.List.{List, [], _∷_, _++_, append-assoc, append-nil}
-use Prim.Native.Nat.{ℕ, zero, suc, _+_, _-_, _*_, _/_, _%_, _≤_, _<_}
+use Prim.Native.Nat.{ℕ, zero, suc, _+_, _-_, _*_, _/_, _%_, _^_, _≤_, _<_}
 use native.Mathlib.Omega.{arith}
 use lib.Dec.{leb, ltb, eqb}
 use lib.ListN.{length, getD, take, drop, length-append}
@@ -12,14 +12,15 @@ use Rattle.std.proofs.shelf.Tests.{eqb-true, and-parts, cases-lt}
 use Rattle.std.proofs.shelf.Ways.{tells}
 use mathlib.Core.Logic.{⊎-elim}
 use Rattle.model.specs.Bits.{bits, number}
-use Rattle.model.specs.Crc.{crcOf}
+use Rattle.model.specs.Crc.{sentBits, crcOf}
 use Rattle.model.specs.Levels.{Bytes, levels}
 use Rattle.model.specs.Frames.{maxData, lengthByte, Message, framed, frameLevels}
 use Rattle.model.specs.Reading.{Reading, hunting, between, inside, Step, goes, endsBroken, endsRight, crcRight, tooLong, complete, judged, reads, Heard, unfinished, broken, right, heardOn}
 use Rattle.model.specs.Codec.{Unfinished, Reads-back, Frame-of, Codec}
 use Rattle.model.proofs.Bits.{number-bits, byte-lt, bits-byte}
+use Rattle.model.proofs.CrcRegister.{fedAll-lt}
 use Rattle.model.proofs.Levels.{levels-++, bytes-++}
-use Rattle.model.proofs.Judged.{front-goes, frame-ends}
+use Rattle.model.proofs.Judged.{length-framed, front-goes, frame-ends}
 
 -- how many levels are left over; 1 where there is no right end
 over : Heard → ℕ
@@ -56,12 +57,16 @@ before-end (l ∷ ls) (goes r) xs (suc n) e h = before-end ls (reads l r) xs n e
 before-end (l ∷ ls) (endsBroken ys) xs n e h = absurd (omega (arith, ap over e))
 before-end (l ∷ ls) (endsRight ys) xs n e h = absurd (omega (arith, ap over e))
 
-crc-bytes : (c : ℕ) → c < 65536 → Bytes (c % 256 ∷ c / 256 ∷ [])
-crc-bytes c h = (omega arith, (omega arith, tt))
+pub bytes-framed : (m : List ℕ) → Message m → Bytes (framed m)
+bytes-framed m ok =
+    let c = crcOf m in
+    let small : c < 2 ^ 16 = fedAll-lt 0xFFFF (sentBits m) (omega arith) in
+    bytes-++ m (c % 256 ∷ c / 256 ∷ []) (ok .bytes) (omega arith, (omega arith, tt))
 
 pub sent-is-read : (m : List ℕ) → Message m → Reads-back m
 sent-is-read m ok =
-    let last = frame-heard m [] (framed m) ok refl ? ? in
+    let some : 0 < length (framed m) = omega (arith, length-framed m ok) in
+    let last = frame-heard m [] (framed m) ok refl (bytes-framed m ok) some in
     record { at-last = last; not-before = λ n h. before-end (frameLevels m) (goes (between [])) (framed m) n last h }
 
 -- ---- what is read was sent
@@ -219,16 +224,18 @@ read-was-sent ls xs e long =
     let n : length xs ≡ lengthByte xs + 5 = complete-is (length xs) (lengthByte xs) (h .0) in
     let m = take (length xs - 2) xs in
     let is : xs ≡ framed m = right-framed xs (sofar .bytes) n (h .1) in
-    let same : lengthByte m ≡ lengthByte xs = getD-take (length xs - 2) xs 2 0 (omega arith) in
-    (m, record {
-      is-message = record {
-        bytes = bytes-take (length xs - 2) xs (sofar .bytes);
-        small = omega (arith, same, sofar .small (omega arith));
-        whole = length-take-le (length xs - 2) xs (omega arith) ∙ omega (arith, same);
-      };
-      with-crc = is;
-      as-levels = sofar .gapless (omega arith) ∙ append-nil (levels xs) ∙ ap levels is;
-    })
+    let same : lengthByte m ≡ lengthByte xs = getD-take (length xs - 2) xs 2 0 (omega arith) in (
+      m,
+      record {
+        is-message = record {
+          bytes = bytes-take (length xs - 2) xs (sofar .bytes);
+          small = omega (arith, same, sofar .small (omega arith));
+          whole = length-take-le (length xs - 2) xs (omega arith) ∙ omega (arith, same);
+        };
+        with-crc = is;
+        as-levels = sofar .gapless (omega arith) ∙ append-nil (levels xs) ∙ ap levels is;
+      },
+    )
 
 pub codec : Codec
 codec = record { sent-is-read = sent-is-read; read-was-sent = read-was-sent }

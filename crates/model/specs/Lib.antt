@@ -14,4 +14,5 @@ pub mod Wires
 pub mod Calls
 pub mod Histories
 pub mod Codec
+pub mod Disturbance
 pub mod FloorChecks
