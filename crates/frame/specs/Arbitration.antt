@@ -1,0 +1,12 @@
+-- What the code's answer says of two source bytes.
+use mathlib.Core.Path.{_≡_}
+use Prim.Native.Nat.{ℕ, _<_}
+use Rattle.model.specs.Arbitration.{Keeps-line}
+use Rattle.model.specs.Bits.{reversed}
+use Rattle.frame.specs.declared.arbitration.Arbitration.{Arbitration}
+use Rattle.frame.specs.declared.arbitration.Arbitration.the-variants.{First, Second, Tie}
+
+abbrev pub Decided : ℕ → ℕ → Arbitration → Type 0
+Decided a b First = (reversed a < reversed b) × Keeps-line a b
+Decided a b Second = (reversed b < reversed a) × Keeps-line b a
+Decided a b Tie = a ≡ b
