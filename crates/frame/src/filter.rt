@@ -11,7 +11,7 @@ pub struct Filters {
 }
 
 impl Filters {
-    /// Whether a frame is taken: the first arm that fits decides.
+    /// Whether a frame is taken: the first rule that fits decides.
     pub fn accept(&self, source: u8, destination: u8) -> bool
         ensures { λ r. ⌜ r ≡ accepts (addresses (now (self .entry))) source destination ⌝ }
     {
@@ -24,7 +24,8 @@ impl Filters {
             _ if filter == 255 => true,
             (s, _) if s == filter => false,
             (_, 255) => true,
-            (_, d) if d == filter1 || d == filter2 || d == filter => true,
+            (_, d) if d == filter1 || d == filter2 => true,
+            (_, d) if d == filter => true,
             _ => false,
         }
     }
