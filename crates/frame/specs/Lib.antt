@@ -1,3 +1,4 @@
 pub mod Header
 pub mod Filter
 pub mod Arbitration
+pub mod Message

@@ -4,6 +4,7 @@ mod arbitration;
 mod checksum;
 mod filter;
 mod header;
+mod message;
 
 pub use arbitration::Arbitration;
 pub use arbitration::ArbitrationDebug;
@@ -14,6 +15,13 @@ pub use arbitration::reversed_source;
 pub use checksum::crc;
 pub use filter::Filters;
 pub use header::Header;
+pub use message::MAX_DATA;
+pub use message::MessageError;
+pub use message::MessageErrorDebug;
+pub use message::MessageErrorEq;
+pub use message::MessageErrorFromAlloc;
+pub use message::MessageErrorPartialEq;
+pub use message::frame_levels;
 
 #[cfg(test)]
 mod tests;

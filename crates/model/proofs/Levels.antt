@@ -2,9 +2,9 @@
 use mathlib.Core.Path.{_≡_, refl, sym, ap, _∙_}
 use mathlib.Core.Bool.{true, false}
 use mathlib.Core.List.{List, [], _∷_, _++_}
-use Prim.Native.Nat.{ℕ, _+_, _*_}
+use Prim.Native.Nat.{ℕ, suc, _+_, _*_, _<_}
 use native.Mathlib.Omega.{arith}
-use lib.ListN.{length, length-append}
+use lib.ListN.{length, getD, length-append}
 use Rattle.model.specs.Bits.{bits}
 use Rattle.model.specs.Levels.{Bytes, levels}
 use Rattle.model.specs.Frames.{lengthByte, Message, framed, frameLevels}
@@ -16,6 +16,11 @@ levels-++ (x ∷ xs) ys = ap (λ ls. false ∷ bits 8 x ++ (true ∷ ls)) (level
 pub bytes-++ : (xs ys : List ℕ) → Bytes xs → Bytes ys → Bytes (xs ++ ys)
 bytes-++ [] ys h k = k
 bytes-++ (x ∷ xs) ys h k = (h .0, bytes-++ xs ys (h .1) k)
+
+-- what is a byte at each place
+pub bytes-from : (xs : List ℕ) → ((i : ℕ) → getD xs i 0 < 256) → Bytes xs
+bytes-from [] h = tt
+bytes-from (x ∷ xs) h = (h 0, bytes-from xs (λ i. h (suc i)))
 
 -- ten levels a byte
 pub length-levels : (xs : List ℕ) → length (levels xs) ≡ 10 * length xs
