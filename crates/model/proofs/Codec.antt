@@ -238,4 +238,5 @@ read-was-sent ls xs e long =
     )
 
 pub codec : Codec
-codec = record { sent-is-read = sent-is-read; read-was-sent = read-was-sent }
+unfolding reads
+codec = record { starts-idle = λ ls. refl; sent-is-read = sent-is-read; read-was-sent = read-was-sent }

@@ -15,6 +15,7 @@ use Rattle.model.specs.Controller.{Table, isFree}
 use Rattle.model.specs.RegisterRule.{takesStart, startsTooLong}
 use Rattle.model.specs.Operations.{write, at, sized, firstOf, refusal}
 use Rattle.model.specs.FloorChecks.{Check, startGets, Holds, floorChecks, Every}
+use Rattle.model.proofs.Arbitration.{lower-keeps-line}
 use Rattle.model.proofs.Levels.{length-frame}
 
 levels-of : (l n : ℕ) → 10 * (l + 5) ≡ n → (xs : List ℕ) → Message xs → lengthByte xs ≡ l → length (frameLevels xs) ≡ n
@@ -39,4 +40,4 @@ start l n e t k size in-table none is =
 pub all-hold : Every Holds floorChecks
 unfolding shifted reversed number
 all-hold =
-    ((refl, refl), ((refl, refl, omega arith), (levels-of 0 50 refl, (levels-of 253 2580 refl, (start 253 0 refl, (start 254 6 refl, (refl, (refl, tt))))))))
+    ((refl, refl), ((refl, refl, omega arith, lower-keeps-line 0x0C 0x0D (omega arith)), (levels-of 0 50 refl, (levels-of 253 2580 refl, (start 253 0 refl, (start 254 6 refl, (refl, (refl, tt))))))))

@@ -136,7 +136,7 @@ endRight s xs r = record {
   ones = r .ones;
 }
 
--- a broken frame counts if two bytes of it were read and the filter accepts
+-- a broken frame counts if at least two bytes of it were read and the filter accepts
 unfoldable pub noticed : Settings → List ℕ → Bool
 noticed s xs = leb 2 (length xs) && wanted s xs
 

@@ -26,7 +26,7 @@ number (b ∷ bs) = number bs * 2 + bit b
 unfoldable pub has : ℕ → ℕ → Bool
 has v i = odd (v / 2 ^ i)
 
--- a byte with its eight bits in opposite order: of two senders that begin together
--- the one whose source byte has the least reversed byte keeps the line
+-- a byte with its eight bits in opposite order: of two senders that begin together the one whose
+-- source byte has the lesser reversed byte keeps the line
 unfoldable pub reversed : ℕ → ℕ
 reversed x = number (reverse (bits 8 x))

@@ -44,6 +44,10 @@ refusesLook k t = firstOf (refusesController k t ++ ((not (isReady (at t k .rx .
 unfoldable pub looked : ℕ → ℕ → Table → ℕ → List ℕ
 looked k place t buffer = take (min buffer (pageSize - place)) (drop place (readPage (at t k .rx .ring) .bytes))
 
+-- how many bytes a look answers
+unfoldable pub lookCount : ℕ → ℕ → Table → ℕ → ℕ
+lookCount k place t buffer = length (looked k place t buffer)
+
 -- the buffer after a look, from its place 0 on; the table stays
 unfoldable pub bufferLooked : ℕ → ℕ → Table → List ℕ → List ℕ
 bufferLooked k place t buffer = putInto buffer 0 (looked k place t (length buffer))

@@ -1,14 +1,14 @@
 -- What is sent is read, and what is read was sent.
 use mathlib.Core.Path.{_≡_}
-use mathlib.Core.Bool.{Bool}
+use mathlib.Core.Bool.{Bool, false}
 use mathlib.Core.List.{List, [], _∷_}
 use Prim.Native.Nat.{ℕ, _*_, _<_}
 use lib.ListN.{length, take}
 use Rattle.model.specs.Frames.{Message, framed, frameLevels}
-use Rattle.model.specs.Reading.{Reading, between, Heard, unfinished, right, heard}
+use Rattle.model.specs.Reading.{Reading, between, Heard, unfinished, right, heard, opened}
 
--- A hunting receiver that was idle passes over ones and takes a 0 for a start bit, as one between bytes does
--- that has read none. So this is where the reading of a frame starts.
+-- Where the reading of a frame starts. A hunting receiver that was idle passes over ones and takes a 0 for a
+-- start bit, as one between bytes does that has read none (starts-idle, below).
 abbrev pub afterIdle : Reading
 afterIdle = between []
 
@@ -28,6 +28,7 @@ pub record Frame-of (m bytes : List ℕ) (ls : List Bool) : Type 0 where
   pub as-levels : ls ≡ frameLevels m
 
 pub record Codec : Type 0 where
+  pub starts-idle : (ls : List Bool) → heard afterIdle (false ∷ ls) ≡ heard (opened false) ls
   pub sent-is-read : (m : List ℕ) → Message m → Reads-back m
   -- levels without gaps are ten for each byte
   pub read-was-sent : (ls : List Bool) (bytes : List ℕ) → heard afterIdle ls ≡ right bytes 0

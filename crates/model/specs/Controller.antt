@@ -38,7 +38,7 @@ pub record Transmitter : Type 0 where
 
 pub record Page : Type 0 where
   pub bytes : List ℕ
-  pub flag : ℕ  -- 0 for a right frame, else the place of a broken frame's last byte
+  pub flag : ℕ  -- 0 for a right frame, else the place of a broken frame's last byte, at most 255
 
 -- the RX pages in a ring: the read page and those after it are ready, as many as are marked; the next is filled
 pub record PageRing : Type 0 where

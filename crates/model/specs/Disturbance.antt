@@ -1,4 +1,4 @@
--- A frame's levels, some of them pulled to 0 from outside: they are never read as another frame.
+-- A frame's levels with a short burst of pulls to 0 from outside: they are never read as another frame.
 use mathlib.Core.Path.{_≡_}
 use mathlib.Core.Logic.{_⊎_}
 use mathlib.Core.Bool.{Bool, true, false, not, _&&_}

@@ -5,6 +5,7 @@ use mathlib.Core.List.{List, [], _∷_, _++_}
 use Prim.Native.Nat.{ℕ, _<_}
 use lib.ListN.{length}
 use Rattle.model.specs.Bits.{reversed}
+use Rattle.model.specs.Arbitration.{Keeps-line}
 use Rattle.model.specs.Crc.{crcOf}
 use Rattle.model.specs.Frames.{lengthByte, Message, framed, frameLevels}
 use Rattle.model.specs.Filter.{Filters, accepts}
@@ -22,7 +23,7 @@ pub data Check : Type 0 where
 -- what each kind of entry says
 abbrev pub Holds : Check → Type 0
 Holds (crcIs xs crc low high) = (crcOf xs ≡ crc) × (framed xs ≡ xs ++ (low ∷ high ∷ []))
-Holds (goesBefore a ra b rb) = (reversed a ≡ ra) × (reversed b ≡ rb) × (ra < rb)
+Holds (goesBefore a ra b rb) = (reversed a ≡ ra) × (reversed b ≡ rb) × (ra < rb) × Keeps-line a b
 Holds (takesLevels l n) = (xs : List ℕ) → Message xs → lengthByte xs ≡ l → length (frameLevels xs) ≡ n
 Holds (startGets l number) = (t : Table) (k : ℕ) → sized t ≡ true → k < length t
     → isFree (at t k .tx .state) ≡ true → lengthByte (at t k .tx .written) ≡ l

@@ -43,7 +43,7 @@ abbrev pub Written : Operation → Type 0
 Written (write k r vs) = Bytes vs
 Written (read k r n place buffer) = Unit {0}
 Written (bitTime pulled) = Unit {0}
-Written (malformed k number) = Unit {0}
+Written (malformed k fault) = Unit {0}
 
 abbrev pub AllWritten : List Operation → Type 0
 AllWritten [] = Unit {0}

@@ -5,9 +5,18 @@ use Prim.Native.Nat.{ℕ, _+_}
 use lib.Dec.{leb, ltb, eqb}
 use lib.ListN.{length, getD, set, take, drop}
 use Rattle.model.specs.Registers.{lastRegister, rxNumber, txNumber, readable, writable, accessOf, registerOf}
-use Rattle.model.specs.Controller.{pageSize, Controller, Table, new}
+use Rattle.model.specs.Controller.{Controller, Table, new}
 use Rattle.model.specs.RegisterRule.{writesAll, admits, givesAll, leavesAll}
 use Rattle.model.specs.BitTime.{lineLevel, ticked, Marks, marks}
+
+-- why a transfer frames no write or read: it has the shape of neither, or a device byte that is not this controller's
+pub data WireFault : Type 0 where
+  noShape : WireFault
+  otherDevice : WireFault
+
+abbrev pub faultNumber : WireFault → ℕ
+faultNumber noShape = 7
+faultNumber otherDevice = 8
 
 -- A transfer on SPI or I2C wires is the port write or port read that it frames, or malformed (Wires).
 pub data Operation : Type 0 where
@@ -17,8 +26,8 @@ pub data Operation : Type 0 where
   read : (controller register count place buffer : ℕ) → Operation
   -- whether something outside pulls the line to 0
   bitTime : (pulled : Bool) → Operation
-  -- a transfer to a controller that frames no write or read, with the number that says why
-  malformed : (controller number : ℕ) → Operation
+  -- a transfer to a controller that frames no write or read
+  malformed : (controller : ℕ) (fault : WireFault) → Operation
 
 -- controller i; one that is not in the table counts as new, so it never sends and is never idle
 abbrev pub at : Table → ℕ → Controller
@@ -39,9 +48,12 @@ firstOf (r ∷ rs) = cond (r .0) (r .1) (firstOf rs)
 abbrev pub refusesController : ℕ → Table → List (Bool × ℕ)
 refusesController k t = (not (sized t), 1) ∷ (leb (length t) k, 2) ∷ []
 
+abbrev pub maxBurst : ℕ
+maxBurst = 256
+
 -- a burst has one byte, or up to 256 at the register that takes several
 abbrev pub burst : Bool → ℕ → Bool
-burst several n = eqb n 1 || several && leb 1 n && leb n pageSize
+burst several n = eqb n 1 || several && leb 1 n && leb n maxBurst
 
 -- 3: no such register; 4: not writable; 5: number of bytes; 6: value
 abbrev pub refusesWrite : ℕ → List ℕ → Controller → List (Bool × ℕ)
@@ -65,7 +77,7 @@ unfoldable pub refusal : Operation → Table → ℕ
 refusal (write k r vs) t = firstOf (refusesController k t ++ refusesWrite r vs (at t k))
 refusal (read k r n place buffer) t = firstOf (refusesController k t ++ refusesRead r n place buffer)
 refusal (bitTime pulled) t = cond (sized t) 0 1
-refusal (malformed k number) t = firstOf (refusesController k t ++ ((true, number) ∷ []))
+refusal (malformed k fault) t = firstOf (refusesController k t ++ ((true, faultNumber fault) ∷ []))
 
 unfoldable pub accepted : Operation → Table → Bool
 accepted o t = eqb (refusal o t) 0
@@ -76,7 +88,7 @@ unfoldable pub done : Operation → Table → Table
 done (write k r vs) t = set t k (writesAll (registerOf r) vs (at t k))
 done (read k r n place buffer) t = set t k (leavesAll (registerOf r) n (at t k))
 done (bitTime pulled) t = map (ticked (lineLevel pulled t)) t
-done (malformed k number) t = t
+done (malformed k fault) t = t
 
 -- a refusal leaves all as found
 unfoldable pub then : Operation → Table → Table
@@ -92,7 +104,7 @@ abbrev pub result : Operation → Table → Outcome
 result (write k r vs) t = wrote
 result (read k r n place buffer) t = gave (givesAll (registerOf r) n (at t k))
 result (bitTime pulled) t = answered (lineLevel pulled t) (map (marks (lineLevel pulled t)) t)
-result (malformed k number) t = refused number
+result (malformed k fault) t = refused (faultNumber fault)
 
 abbrev pub outcome : Operation → Table → Outcome
 outcome o t = cond (accepted o t) (result o t) (refused (refusal o t))
@@ -108,7 +120,7 @@ abbrev pub placeOf : Operation → ℕ
 placeOf (write k r vs) = 0
 placeOf (read k r n place buffer) = place
 placeOf (bitTime pulled) = 0
-placeOf (malformed k number) = 0
+placeOf (malformed k fault) = 0
 
 abbrev pub bytesGiven : Outcome → List ℕ
 bytesGiven (refused n) = []

@@ -5,14 +5,15 @@ use Prim.Native.Nat.{ℕ, _+_, _-_, _*_, _%_}
 use lib.Dec.{leb, ltb, eqb}
 use lib.ListN.{length, getD, drop}
 use Rattle.model.specs.Bits.{has}
-use Rattle.model.specs.Operations.{Operation, write, read, malformed}
+use Rattle.model.specs.Operations.{Operation, write, read, malformed, noShape, otherDevice}
 
 -- ---- SPI
 
 -- The first byte has bit 7 set for a write and the register in bits 6 to 0. A write's data follow; a read sends
--- a byte, not looked at, for each byte wanted. The reply goes to a buffer from place 0. 7: no byte at all.
+-- a byte, not looked at, for each byte wanted. The reply goes to a buffer from place 0.
+-- Without a first byte there is no shape.
 unfoldable pub spi : (controller : ℕ) (sent : List ℕ) (buffer : ℕ) → Operation
-spi k [] buffer = malformed k 7
+spi k [] buffer = malformed k noShape
 spi k (x ∷ xs) buffer = cond (has x 7) (write k (x % 128) xs) (read k (x % 128) (length xs) 0 buffer)
 
 -- ---- I2C
@@ -70,13 +71,13 @@ deviceForWrite k = 0xC0 + 2 * (k % 4)
 abbrev pub deviceForRead : ℕ → ℕ
 deviceForRead k = 0xC1 + 2 * (k % 4)
 
--- 7: neither shape; 8: a device byte that is not this controller's; bit 7 of the register byte is ignored
+-- bit 7 of the register byte is ignored
 abbrev pub framedBy : ℕ → ℕ → Shape → Operation
-framedBy k buffer neither = malformed k 7
+framedBy k buffer neither = malformed k noShape
 framedBy k buffer (writing device r bytes) =
-    cond (eqb device (deviceForWrite k)) (write k (r % 128) bytes) (malformed k 8)
+    cond (eqb device (deviceForWrite k)) (write k (r % 128) bytes) (malformed k otherDevice)
 framedBy k buffer (reading device r again wanted) =
-    cond (eqb device (deviceForWrite k) && eqb again (deviceForRead k)) (read k (r % 128) wanted 0 buffer) (malformed k 8)
+    cond (eqb device (deviceForWrite k) && eqb again (deviceForRead k)) (read k (r % 128) wanted 0 buffer) (malformed k otherDevice)
 
 unfoldable pub i2c : (controller : ℕ) (sent : List ℕ) (buffer : ℕ) → Operation
 i2c k sent buffer = framedBy k buffer (shape sent)
