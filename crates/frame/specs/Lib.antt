@@ -2,3 +2,5 @@ pub mod Header
 pub mod Filter
 pub mod Arbitration
 pub mod Message
+pub mod Phase
+pub mod Reader

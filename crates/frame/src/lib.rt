@@ -5,6 +5,7 @@ mod checksum;
 mod filter;
 mod header;
 mod message;
+mod reader;
 
 pub use arbitration::Arbitration;
 pub use arbitration::ArbitrationDebug;
@@ -22,6 +23,8 @@ pub use message::MessageErrorEq;
 pub use message::MessageErrorFromAlloc;
 pub use message::MessageErrorPartialEq;
 pub use message::frame_levels;
+pub use reader::FrameReader;
+pub use reader::Progress;
 
 #[cfg(test)]
 mod tests;
