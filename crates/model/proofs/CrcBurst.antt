@@ -27,15 +27,21 @@ window c hc u v small same e =
     (ap (λ n. shifts n (bitXor c (number v))) (sym same) ∙ sym (all-at-once c v) ∙ e ∙ all-at-once c u)
     ∙ xor-comm c (number u)))
 
-pub burst-detected : (c : ℕ) → c < 2 ^ 16 → (before u v after : List Bool)
-    → length u ≤ 16 → length v ≡ length u → v ≢ u
-    → fedAll c (before ++ v ++ after) ≢ fedAll c (before ++ u ++ after)
-burst-detected c hc before u v after small same ne e =
+-- lists of bits that differ only within 16 in a row, and that lead to the same register, are the same there
+pub same-window : (c : ℕ) → c < 2 ^ 16 → (before u v after : List Bool)
+    → length u ≤ 16 → length v ≡ length u
+    → fedAll c (before ++ v ++ after) ≡ fedAll c (before ++ u ++ after) → v ≡ u
+same-window c hc before u v after small same e =
     let d = fedAll c before in
     let hd : d < 2 ^ 16 = fedAll-lt c before hc in
-    ne (window d hd u v small same
+    window d hd u v small same
     (fedAll-apart (fedAll d v) (fedAll d u) after (fedAll-lt d v hd) (fedAll-lt d u hd)
-    (sym (three v) ∙ e ∙ three u)))
+    (sym (three v) ∙ e ∙ three u))
   where
     three : (w : List Bool) → fedAll c (before ++ w ++ after) ≡ fedAll (fedAll (fedAll c before) w) after
     three w = fedAll-++ c (before ++ w) after ∙ ap (λ x. fedAll x after) (fedAll-++ c before w)
+
+pub burst-detected : (c : ℕ) → c < 2 ^ 16 → (before u v after : List Bool)
+    → length u ≤ 16 → length v ≡ length u → v ≢ u
+    → fedAll c (before ++ v ++ after) ≢ fedAll c (before ++ u ++ after)
+burst-detected c hc before u v after small same ne e = ne (same-window c hc before u v after small same e)

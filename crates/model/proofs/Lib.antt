@@ -5,4 +5,7 @@ pub mod Arbitration
 pub mod Levels
 pub mod Judged
 pub mod Codec
+pub mod Gapless
+pub mod LevelBits
+pub mod Disturbance
 pub mod FloorChecks
