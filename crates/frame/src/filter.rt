@@ -15,17 +15,12 @@ impl Filters {
     pub fn accept(&self, source: u8, destination: u8) -> bool
         ensures { λ r. ⌜ r ≡ accepts (addresses (now (self .entry))) source destination ⌝ }
     {
-        let Filters {
-            filter,
-            filter1,
-            filter2,
-        } = *self;
         match (source, destination) {
-            _ if filter == 255 => true,
-            (s, _) if s == filter => false,
+            _ if self.filter == 255 => true,
+            (s, _) if s == self.filter => false,
             (_, 255) => true,
-            (_, d) if d == filter1 || d == filter2 => true,
-            (_, d) if d == filter => true,
+            (_, d) if d == self.filter1 || d == self.filter2 => true,
+            (_, d) if d == self.filter => true,
             _ => false,
         }
     }

@@ -24,7 +24,7 @@ fn filter_takes_what_it_should() -> Result<(), Fail> {
     let filters = Filters {
         filter: 0x0D,
         filter1: 0x20,
-        filter2: 0xFF,
+        filter2: 0x22,
     };
     check(filters.accept(0x0C, 0x0D)).note("to it alone")?;
     check(filters.accept(0x0C, 0x20)).note("multicast")?;

@@ -2,13 +2,13 @@
 use mathlib.Core.Path.{_≡_, refl, sym, ap, _∙_, subst}
 use mathlib.Core.Bool.{Bool, true, false}
 use mathlib.Core.List.{List, [], _∷_, _++_, reverse, reverse-cons, reverse-reverse}
-use Prim.Native.Nat.{ℕ, zero, suc, _+_, _*_, _^_, _<_}
+use Prim.Native.Nat.{ℕ, suc, _+_, _*_, _^_, _<_}
 use native.Mathlib.Nat.{pow-suc, suc-inj}
 use native.Mathlib.Omega.{arith}
 use lib.ListN.{length, length-reverse, getD, take}
 use Rattle.model.specs.Bits.{bit, bits, number, reversed}
 use Rattle.model.specs.Arbitration.{Keeps-line}
-use Rattle.model.proofs.Bits.{length-bits, number-bits, number-lt, number-apart}
+use Rattle.model.proofs.Bits.{number-bits, number-lt, number-apart}
 
 -- in the first place in which they differ, u has 0 and v has 1
 record Goes-before (u v : List Bool) : Type 0 where

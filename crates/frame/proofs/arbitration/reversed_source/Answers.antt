@@ -2,7 +2,7 @@
 use mathlib.Core.Path.{_≡_, refl, sym, ap, _∙_}
 use mathlib.Core.Bool.{Bool}
 use mathlib.Core.List.{List, [], _∷_, reverseAux}
-use Prim.Native.Nat.{ℕ, zero, suc, _+_, _*_, _/_, _%_}
+use Prim.Native.Nat.{ℕ, zero, suc, _+_, _*_, _/_}
 use Rattle.std.specs.Numbers.{reversedOnto}
 use Rattle.model.specs.Bits.{bits, odd, number, reversed}
 use Rattle.model.proofs.Bits.{bit-odd}

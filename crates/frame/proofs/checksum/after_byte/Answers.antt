@@ -1,5 +1,6 @@
 use mathlib.Core.Path.{_≡_, sym, ap, _∙_}
 use Prim.Native.Nat.{ℕ, _/_, _%_, _<_}
+use borrow.Author.Needs.{needs}
 use native.Mathlib.Omega.{arith}
 use lib.Bits.{bitXor, bitAnd, and-mask, xor-lt}
 use Rattle.model.specs.Crc.{shifted}
@@ -13,11 +14,11 @@ low-byte r x = ap (λ y. bitXor y x) (and-mask r 8)
 index-lt : (i r x : ℕ) → x < 256 → i ≡ bitXor (bitAnd r 255) x → i < 256
 index-lt i r x h e = omega (arith, low-byte r x, xor-lt 8 (r % 256) x (omega arith) h)
 
-pub offset-from : need.offset-from
-offset-from c = omega (arith, index-lt (c .from .result) (c .args .register) (c .args .byte) (omega arith) (c .from .ensures))
-
 pub index-from : need.index-from
-index-from c = index-lt (c .from .result) (c .args .register) (c .args .byte) (omega arith) (c .from .ensures)
+index-from c = search (needs, index-lt)
+
+pub offset-from : need.offset-from
+offset-from c = let k : c .from .result < 256 = search (needs, index-lt) in omega arith
 
 -- the table is eight shifts of each byte, which antt computes
 pub returns : need.returns

@@ -22,4 +22,6 @@ loop-byte-again c =
     cc
 
 pub returns : need.returns
-returns c = sym (done (c .loop-byte .register) (c .args .bytes .now) (c .loop-byte .byte-index) (c .loop-byte-test .left)) ∙ c .loop-byte .inv
+returns c =
+    sym (done (c .loop-byte .register) (c .args .bytes .now) (c .loop-byte .byte-index) (c .loop-byte-test .left))
+    ∙ c .loop-byte .inv
