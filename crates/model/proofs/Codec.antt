@@ -144,7 +144,7 @@ judge false true false ys ls x y z h = tt
 judge false false c ys ls x y z h = h x
 
 one-more : (r : Reading) (ls : List Bool) (b : Bool) → Open r ls → After (reads b r) (ls ++ (b ∷ []))
-unfolding After Open reads judged
+unfolding After Open reads
 one-more hunting ls b h = tt
 one-more (between xs) ls false h = (refl, part-more xs [] ls false h)
 one-more (between xs) ls true h = gap-more xs ls h

@@ -15,13 +15,11 @@ use Rattle.model.specs.Reading.{between, Step, goes, endsBroken, endsRight, cr
 
 -- where these tests come out so, the frame goes on or ends right
 judged-goes : (p : List ℕ) → tooLong p ≡ false → complete p ≡ false → judged true p ≡ goes (between p)
-unfolding judged
 judged-goes p a b =
     ap (λ x. cond x (endsBroken p) (cond (complete p) (cond (crcRight p) (endsRight p) (endsBroken p)) (goes (between p)))) a
     ∙ ap (λ x. cond x (cond (crcRight p) (endsRight p) (endsBroken p)) (goes (between p))) b
 
 judged-right : (p : List ℕ) → tooLong p ≡ false → complete p ≡ true → crcRight p ≡ true → judged true p ≡ endsRight p
-unfolding judged
 judged-right p a b c =
     ap (λ x. cond x (endsBroken p) (cond (complete p) (cond (crcRight p) (endsRight p) (endsBroken p)) (goes (between p)))) a
     ∙ ap (λ x. cond x (cond (crcRight p) (endsRight p) (endsBroken p)) (goes (between p))) b

@@ -35,7 +35,7 @@ abbrev pub complete : List ℕ → Bool
 complete xs = leb 3 (length xs) && eqb (length xs) (lengthByte xs + 5)
 
 -- judged at a byte's stop bit, in this order: the stop bit, the length, the CRC
-unfoldable pub judged : Bool → List ℕ → Step
+abbrev pub judged : Bool → List ℕ → Step
 judged false xs = endsBroken xs
 judged true xs =
     cond (tooLong xs) (endsBroken xs)
