@@ -1,4 +1,5 @@
 -- A reader of the code as the rules see it.
+use mathlib.Core.Bool.{Bool, true, false}
 use mathlib.Core.List.{List}
 use Prim.Native.Nat.{ℕ}
 use lib.ListN.{take, drop}
@@ -33,3 +34,8 @@ abbrev pub stepped : Progress → FrameReader → Step
 stepped Unfinished r = goes (reading r)
 stepped Right r = endsRight (bytesOf r)
 stepped Broken r = endsBroken (bytesOf r)
+
+abbrev pub ended : Progress → Bool
+ended Unfinished = false
+ended Right = true
+ended Broken = true

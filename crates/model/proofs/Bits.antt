@@ -3,7 +3,7 @@ use mathlib.Core.Path.{_≡_, refl, sym, ap, ap₂, _∙_, subst}
 use mathlib.Core.Bool.{Bool, true, false}
 use mathlib.Core.List.{List, [], _∷_, _++_}
 use Prim.Native.Nat.{ℕ, zero, suc, _+_, _*_, _/_, _%_, _^_, _<_, _≤_}
-use native.Mathlib.Nat.{pow-suc}
+use native.Mathlib.Nat.{pow-suc, mul-assoc}
 use native.Mathlib.Omega.{arith}
 use lib.Dec.{eqb}
 use lib.ListN.{length}
@@ -68,3 +68,20 @@ byte-lt bs e = subst (λ n. number bs < 2 ^ n) e (number-lt bs)
 
 pub bits-byte : (bs : List Bool) → length bs ≡ 8 → bits 8 (number bs) ≡ bs
 bits-byte bs e = ap (λ n. bits n (number bs)) (sym e) ∙ bits-number bs
+
+-- a highest bit put over n lower ones
+pub bits-top : (n x : ℕ) (b : Bool) → x < 2 ^ n → bits (suc n) (x + bit b * 2 ^ n) ≡ bits n x ++ (b ∷ [])
+bits-top zero x b h = ap (λ y. odd y ∷ []) (omega arith) ∙ ap (λ c. c ∷ []) (odd-bit 0 b)
+bits-top (suc n) x b h =
+    let t = bit b * 2 ^ n in
+    let twice : x + bit b * 2 ^ suc n ≡ x + t * 2 = ap (λ p. x + bit b * p) (pow-suc 2 n) ∙ ap (λ y. x + y) (sym (mul-assoc (bit b) (2 ^ n) 2)) in
+    let small : x / 2 < 2 ^ n = omega (arith, pow-suc 2 n) in
+    ap (bits (suc (suc n))) twice
+    ∙ ap₂ (λ c y. eqb c 1 ∷ bits (suc n) y) (low t) (high t)
+    ∙ ap (λ k. odd x ∷ k) (bits-top n (x / 2) b small)
+  where
+    low : (t : ℕ) → (x + t * 2) % 2 ≡ x % 2
+    low t = omega arith
+
+    high : (t : ℕ) → (x + t * 2) / 2 ≡ x / 2 + t
+    high t = omega arith

@@ -33,7 +33,6 @@ over (right xs n) = n
 -- a byte's ten levels lead to the judgment at its stop bit
 byte-heard : (xs ys : List ℕ) (y : ℕ) → y < 256
     → heardOn (levels (y ∷ ys)) (goes (between xs)) ≡ heardOn (levels ys) (judged true (xs ++ (y ∷ [])))
-unfolding reads
 byte-heard xs ys y h = ap (λ v. heardOn (levels ys) (judged true (xs ++ (v ∷ [])))) (number-bits 8 y h)
 
 -- what is left of a frame leads to its right end
@@ -144,7 +143,7 @@ judge false true false ys ls x y z h = tt
 judge false false c ys ls x y z h = h x
 
 one-more : (r : Reading) (ls : List Bool) (b : Bool) → Open r ls → After (reads b r) (ls ++ (b ∷ []))
-unfolding After Open reads
+unfolding After Open
 one-more hunting ls b h = tt
 one-more (between xs) ls false h = (refl, part-more xs [] ls false h)
 one-more (between xs) ls true h = gap-more xs ls h
@@ -238,5 +237,4 @@ read-was-sent ls xs e long =
     )
 
 pub codec : Codec
-unfolding reads
 codec = record { starts-idle = λ ls. refl; sent-is-read = sent-is-read; read-was-sent = read-was-sent }

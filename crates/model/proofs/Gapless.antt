@@ -29,7 +29,7 @@ counted-judged false true false xs k h = tt
 counted-judged false false c xs k h = h
 
 counted-one : (r : Reading) (b : Bool) (k : ℕ) → ((j : ℕ) → k ≡ 10 * j → b ≡ false) → Counted r k → After (reads b r) (suc k)
-unfolding After Counted reads
+unfolding After Counted
 counted-one hunting b k low h = tt
 counted-one (between xs) false k low h = omega arith
 counted-one (between xs) true k low h = let no : _≡_ {A = ℕ} 0 1 = cc (low (length xs) h) in absurd (omega arith)

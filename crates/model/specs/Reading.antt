@@ -42,7 +42,7 @@ judged true xs =
     (cond (complete xs) (cond (crcRight xs) (endsRight xs) (endsBroken xs)) (goes (between xs)))
 
 -- one level; ones between bytes are passed over
-unfoldable pub reads : Bool → Reading → Step
+abbrev pub reads : Bool → Reading → Step
 reads level hunting = goes hunting
 reads false (between xs) = goes (inside xs 8 [])
 reads true (between xs) = goes (between xs)

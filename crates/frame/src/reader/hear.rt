@@ -4,10 +4,10 @@ ghost use mathlib.Core.Path.{_≡_};
 ghost use Prim.Native.Nat.{_≤_};
 ghost use lib.ListN.{length};
 ghost use Rattle.frame.specs.Phase.{goesOn};
-ghost use Rattle.frame.specs.Reader.{bytesOf, reading, verdict, stepped};
+ghost use Rattle.frame.specs.Reader.{bytesOf, reading, verdict, stepped, ended};
 ghost use Rattle.model.specs.Codec.{afterIdle};
 ghost use Rattle.model.specs.Frames.{lengthByte};
-ghost use Rattle.model.specs.Reading.{crcRight, judged, reads};
+ghost use Rattle.model.specs.Reading.{hunting, crcRight, judged, reads};
 use crate::checksum::crc;
 use crate::message::MAX_DATA;
 use crate::reader::FrameReader;
@@ -73,5 +73,47 @@ impl FrameReader {
         ensures { λ r. ⌜ now r ≡ bytesOf (now (self .entry)) ⌝ }
     {
         &self.bytes[0..self.count]
+    }
+
+    /// A byte whose eight bits were read, at its stop bit.
+    fn end_byte(&mut self, value: u8, stop: bool) -> Progress
+        requires { ⌜ goesOn (now self .count) (lengthByte (now self .bytes)) ≡ true ⌝ }
+        ensures step { λ r. ⌜ judged stop (bytesOf (now (self .entry)) ++ (value ∷ [])) ≡ stepped r (now (self .exit)) ⌝ }
+        ensures hunts { λ r. ⌜ (ended r ≡ true → reading (now (self .exit)) ≡ hunting) ⌝ }
+    {
+        self.phase = Phase::Hunting;
+        self.bytes[self.count] = value;
+        self.count += 1;
+        let progress = judge(&self.bytes[0..self.count], stop);
+        if let Progress::Unfinished = progress {
+            self.phase = Phase::Between;
+        }
+        progress
+    }
+
+    /// One level of the line: what becomes of the frame.
+    pub fn hear(&mut self, level: bool) -> Progress
+        ensures step { λ r. ⌜ reads level (reading (now (self .entry))) ≡ stepped r (now (self .exit)) ⌝ }
+        ensures hunts { λ r. ⌜ (ended r ≡ true → reading (now (self .exit)) ≡ hunting) ⌝ }
+    {
+        match self.phase {
+            Phase::Hunting => Progress::Unfinished,
+            Phase::Between => {
+                if !level {
+                    self.phase = Phase::Inside { left: 8, value: 0 };
+                }
+                Progress::Unfinished
+            }
+            Phase::Inside { left, value } => {
+                if left == 0 {
+                    return self.end_byte(value, level);
+                }
+                self.phase = Phase::Inside {
+                    left: left - 1,
+                    value: value / 2 + if level { 128 } else { 0 },
+                };
+                Progress::Unfinished
+            }
+        }
     }
 }
