@@ -5,11 +5,12 @@ use mathlib.Core.List.{List, [], _∷_, _++_}
 use Prim.Native.Nat.{ℕ, suc, _+_, _-_, _*_, _/_, _≤_, _<_}
 use native.Mathlib.Omega.{arith}
 use lib.Dec.{leb}
-use lib.ListN.{drop}
+use lib.ListN.{length, getD, drop, length-drop}
+use Rattle.std.proofs.shelf.Lists.{drop-more}
 use Rattle.std.proofs.shelf.Tests.{and-parts, leb-true}
 use Rattle.model.specs.Bits.{bit, bits}
 use Rattle.model.specs.Frames.{lengthByte}
-use Rattle.model.specs.Reading.{Step, inside, goes, reads, judged}
+use Rattle.model.specs.Reading.{Reading, Step, inside, goes, reads, judged, heard, heardOn}
 use Rattle.model.proofs.Bits.{number-bits}
 use Rattle.frame.specs.declared.reader.Phase.{Phase}
 use Rattle.frame.specs.declared.reader.Phase.the-variants.{Inside}
@@ -17,7 +18,7 @@ use Rattle.frame.specs.declared.reader.FrameReader.{FrameReader}
 use Rattle.frame.specs.declared.reader.hear.Progress.{Progress}
 use Rattle.frame.specs.declared.reader.hear.Progress.the-variants.{Unfinished, Right, Broken}
 use Rattle.frame.specs.Phase.{goesOn, sound}
-use Rattle.frame.specs.Reader.{standing, bytesOf, reading, verdict, stepped, ended}
+use Rattle.frame.specs.Reader.{standing, bytesOf, reading, verdict, stepped, ended, heardAs}
 use Rattle.frame.proofs.Buffer.{bit-more}
 
 -- ---- the answer
@@ -55,3 +56,25 @@ bit-heard level phase xs left value more is some few byte top =
     ap (λ p. reads level (standing p xs)) (is ∙ ap (λ n. Inside n value) one)
     ∙ ap (λ bs. goes (inside xs (left - 1) bs))
     (sym (bit-more (left - 1) value level (omega arith) byte) ∙ ap (λ m. drop (left - 1) (bits 8 (value / 2 + m))) (sym top))
+
+-- ---- many levels
+
+-- one level more of those that are heard
+level-heard : (ls : List Bool) (i : ℕ) (r : Reading) (s : Step) → i < length ls → reads (getD ls i false) r ≡ s
+    → heard r (drop i ls) ≡ heardOn (drop (i + 1) ls) s
+level-heard ls i r s h e = ap (heard r) (drop-more ls i false h) ∙ ap (heardOn (drop (i + 1) ls)) e
+
+pub heard-on : (ls : List Bool) (i : ℕ) (r : Reading) (p : Progress) (next : FrameReader) → i < length ls
+    → reads (getD ls i false) r ≡ stepped p next → p ≡ Unfinished → heard (reading next) (drop (i + 1) ls) ≡ heard r (drop i ls)
+heard-on ls i r p next h e is = sym (level-heard ls i r (goes (reading next)) h (e ∙ ap (λ q. stepped q next) is))
+
+pub heard-end : (ls : List Bool) (i : ℕ) (r : Reading) (p : Progress) (next : FrameReader) → i < length ls
+    → reads (getD ls i false) r ≡ stepped p next → (p ≡ Unfinished → ⊥) → heard r (drop i ls) ≡ heardAs p next (length ls - (i + 1))
+heard-end ls i r p next h e not = level-heard ls i r (stepped p next) h e ∙ ended-as p (drop (i + 1) ls) not ∙ ap (heardAs p next) (length-drop (i + 1) ls)
+  where
+    ended-as : (q : Progress) (rest : List Bool) → (q ≡ Unfinished → ⊥) → heardOn rest (stepped q next) ≡ heardAs q next (length rest)
+    ended-as Unfinished rest stop = absurd (stop refl)
+    ended-as Right [] stop = refl
+    ended-as Right (l ∷ rest) stop = refl
+    ended-as Broken [] stop = refl
+    ended-as Broken (l ∷ rest) stop = refl

@@ -4,3 +4,4 @@ pub mod Arbitration
 pub mod Message
 pub mod Phase
 pub mod Reader
+pub mod Read

@@ -39,3 +39,9 @@ abbrev pub ended : Progress → Bool
 ended Unfinished = false
 ended Right = true
 ended Broken = true
+
+-- what many levels made of the frame, with so many left over
+abbrev pub heardAs : Progress → FrameReader → ℕ → Heard
+heardAs Unfinished r left = unfinished (reading r)
+heardAs Right r left = right (bytesOf r) left
+heardAs Broken r left = broken (bytesOf r) left

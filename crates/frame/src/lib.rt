@@ -25,6 +25,12 @@ pub use message::MessageErrorPartialEq;
 pub use message::frame_levels;
 pub use reader::FrameReader;
 pub use reader::Progress;
+pub use reader::ProgressDebug;
+pub use reader::ProgressEq;
+pub use reader::ProgressPartialEq;
+pub use reader::Reading;
+pub use reader::ReadingDebug;
+pub use reader::read_frame;
 
 #[cfg(test)]
 mod tests;

@@ -75,13 +75,21 @@ fn push_bytes(levels: &mut Vec<bool>, bytes: &[u8]) -> Result<(), AllocError>
     Ok(())
 }
 
-/// The levels of the frame that carries a message: its bytes and their CRC, without gaps.
+/// The levels of a message and its CRC, low byte first, behind those that are there.
+fn push_frame(levels: &mut Vec<bool>, message: &[u8]) -> Result<(), AllocError>
+    ensures { λ r. ⌜ made r (λ _. vec-items (now (levels .exit)) ≡ vec-items (now (levels .entry)) ++ frameLevels (now (message .entry))) ⌝ }
+{
+    push_bytes(levels, message)?;
+    push_bytes(levels, &crc(message).to_le_bytes())?;
+    Ok(())
+}
+
+/// The levels of the frame that carries a message.
 pub fn frame_levels(heap: Global, message: &[u8]) -> Result<Vec<bool>, MessageError>
     ensures { λ r. ⌜ Cases r (λ v. Message (now (message .entry)) × (vec-items v ≡ frameLevels (now (message .entry)))) (Fault (now (message .entry))) ⌝ }
 {
     check(message)?;
     let mut levels = Vec::new(heap);
-    push_bytes(&mut levels, message)?;
-    push_bytes(&mut levels, &crc(message).to_le_bytes())?;
+    push_frame(&mut levels, message)?;
     Ok(levels)
 }

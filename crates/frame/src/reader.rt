@@ -4,8 +4,15 @@ ghost use mathlib.Core.Path.{_≡_};
 ghost use Rattle.frame.specs.Phase.{sound};
 
 mod hear;
+mod read;
 
 pub use hear::Progress;
+pub use hear::ProgressDebug;
+pub use hear::ProgressEq;
+pub use hear::ProgressPartialEq;
+pub use read::Reading;
+pub use read::ReadingDebug;
+pub use read::read_frame;
 
 /// The bytes of the longest frame: header, 253 data bytes, CRC.
 const LONGEST: usize = 258;

@@ -1,6 +1,5 @@
-use mathlib.Core.Path.{refl}
 use Rattle.model.proofs.FloorChecks.{all-hold}
 use Rattle.model.proofs.floor_checks.Needs as need
 
 pub returns : need.returns
-returns c = record { counted = refl; hold = all-hold }
+returns c = record { counted = c .count .ensures; hold = all-hold }

@@ -6,7 +6,7 @@ use Prim.Native.Nat.{ℕ, zero, suc, _+_, _*_, _/_}
 use Rattle.std.specs.Numbers.{reversedOnto}
 use Rattle.model.specs.Bits.{bits, odd, number, reversed}
 use Rattle.model.proofs.Bits.{bit-odd}
-use Rattle.frame.proofs.arbitration.reversed_source.Needs as need
+use Rattle.frame.proofs.arbitration.mirrored.Needs as need
 
 onto : (k n : ℕ) (before : List Bool) → reversedOnto k n (number before) ≡ number (reverseAux (bits k n) before)
 unfolding reversedOnto number
@@ -16,4 +16,4 @@ onto (suc k) n before =
 
 pub returns : need.returns
 unfolding reversed number
-returns c = c .reverse-bits .ensures ∙ onto 8 (c .args .source) []
+returns c = c .reverse-bits .ensures ∙ onto 8 (c .args .byte) []
