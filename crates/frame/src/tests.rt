@@ -40,3 +40,48 @@ fn first_zero_keeps_the_line() -> Result<(), Fail> {
     check_eq(arbitrate(0x0D, 0x0C), Arbitration::Second)?;
     check_eq(arbitrate(0x0D, 0x0D), Arbitration::Tie)
 }
+
+#[test]
+fn a_frame_reads_as_it_was_sent(rt: LibcRuntime) -> Result<(), Fail> {
+    let heap = rt.alloc();
+    let levels = frame_levels(heap, &[0x0C, 0x0D, 0x01, 0xCD])?;
+    check_eq(levels.len(), 60)?;
+    let Reading::Right {
+        bytes,
+        levels: count,
+    } = read_frame(heap, &levels)?
+    else {
+        return Err(Fail::new("not right"));
+    };
+    check_eq(bytes.as_slice(), &[0x0C, 0x0D, 0x01, 0xCD, 0x52, 0xB2])?;
+    check_eq(count, 60)
+}
+
+#[test]
+fn a_frame_that_is_cut_or_pulled(rt: LibcRuntime) -> Result<(), Fail> {
+    let heap = rt.alloc();
+    let mut levels = frame_levels(heap, &[0x0C, 0x0D, 0x01, 0xCD])?;
+    check(levels.len() == 60)?;
+    check(matches!(read_frame(heap, &levels[0..59])?, Reading::Unfinished)).note(
+        "one level short",
+    )?;
+    levels[31] = false;
+    check(matches!(read_frame(heap, &levels)?, Reading::Broken { .. })).note("a data bit pulled")
+}
+
+#[test]
+fn what_is_no_message_has_no_frame(rt: LibcRuntime) -> Result<(), Fail> {
+    let heap = rt.alloc();
+    check_eq(
+        frame_levels(heap, &[0x0C, 0x0D]).err(),
+        Some(MessageError::NoHeader),
+    )?;
+    check_eq(
+        frame_levels(heap, &[0x0C, 0x0D, 254]).err(),
+        Some(MessageError::TooLong),
+    )?;
+    check_eq(
+        frame_levels(heap, &[0x0C, 0x0D, 2, 0xCD]).err(),
+        Some(MessageError::WrongLength),
+    )
+}
