@@ -3,6 +3,7 @@ use mathlib.Core.Path.{_≡_}
 use mathlib.Core.Logic.{_≢_}
 use mathlib.Core.List.{List}
 use Prim.Native.Nat.{ℕ, _+_, _≤_, _<_}
+use lib.Chars.{codes}
 use lib.ListN.{length}
 use Rattle.model.specs.Frames.{maxData, lengthByte, Message}
 use Rattle.frame.specs.declared.message.MessageError.{MessageError}
@@ -14,3 +15,10 @@ Fault xs NoHeader = length xs < 3
 Fault xs TooLong = (3 ≤ length xs) × (maxData < lengthByte xs)
 Fault xs WrongLength = (3 ≤ length xs) × (lengthByte xs ≤ maxData) × (length xs ≢ lengthByte xs + 3)
 Fault xs NoMemory = Message xs
+
+-- each fault in words
+abbrev pub says : MessageError → List ℕ
+says NoHeader = codes "no header"
+says TooLong = codes "length byte above 253"
+says WrongLength = codes "length byte and data differ"
+says NoMemory = codes "no memory"

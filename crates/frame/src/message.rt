@@ -1,16 +1,19 @@
 ghost use mathlib.Core.List.{[], _∷_, _++_};
 ghost use mathlib.Core.Path.{_≡_};
-ghost use Rattle.frame.specs.Message.{Fault};
+ghost use Rattle.frame.specs.Message.{Fault, says};
 ghost use Rattle.frame.specs.declared.message.MessageError.the-variants.{NoMemory};
 ghost use Rattle.model.specs.Frames.{Message, frameLevels};
 ghost use Rattle.model.specs.Levels.{levels as levelsOf};
 ghost use Rattle.std.specs.Of.Vec.{vec-items};
 ghost use Rattle.std.specs.Results.{Cases};
+ghost use Rattle.std.specs.declared.option.Option.the-variants.{Some};
 ghost use Rattle.std.specs.Vec.{made};
 use crate::checksum::crc;
 use crate::header::Header;
 use std::alloc::AllocError;
 use std::alloc::Global;
+use std::error::Error;
+use std::fmt;
 
 /// The most data bytes that a frame carries.
 pub const MAX_DATA: u8 = 253;
@@ -26,6 +29,21 @@ pub enum MessageError {
     WrongLength,
     NoMemory,
 }
+
+pub impl fmt::Display for MessageError as MessageErrorDisplay {
+    ghost shown = { λ e. Some (says e) };
+
+    fn fmt<W: fmt::Write>(&self, f: &mut fmt::Formatter<W>) -> fmt::Result {
+        match self {
+            MessageError::NoHeader => f.write_str("no header"),
+            MessageError::TooLong => f.write_str("length byte above 253"),
+            MessageError::WrongLength => f.write_str("length byte and data differ"),
+            MessageError::NoMemory => f.write_str("no memory"),
+        }
+    }
+}
+
+pub impl Error for MessageError as MessageErrorError {}
 
 pub impl From<AllocError> for MessageError as MessageErrorFromAlloc {
     ghost converts = { λ _ r. r ≡ NoMemory };
