@@ -21,26 +21,34 @@ use Rattle.model.proofs.LevelBits.{same-frame}
 
 -- ---- levels that are pulled
 
-length-pulled : (ls pulls : List Bool) → length (pulledLow ls pulls) ≡ length ls
+pub length-pulled : (ls pulls : List Bool) → length (pulledLow ls pulls) ≡ length ls
 length-pulled [] pulls = refl
 length-pulled (l ∷ ls) [] = refl
 length-pulled (l ∷ ls) (p ∷ pulls) = ap suc (length-pulled ls pulls)
 
+and-true : (b : Bool) → b ≡ (b && true)
+and-true true = refl
+and-true false = refl
+
+-- a level that is not pulled stays, and one that is pulled is 0
+pub level-pulled : (ls pulls : List Bool) (k : ℕ) → getD (pulledLow ls pulls) k false ≡ (getD ls k false && not (getD pulls k false))
+level-pulled [] pulls k = refl
+level-pulled (l ∷ ls) [] k = and-true (getD (l ∷ ls) k false)
+level-pulled (l ∷ ls) (p ∷ pulls) zero = refl
+level-pulled (l ∷ ls) (p ∷ pulls) (suc k) = level-pulled ls pulls k
+
 -- a 0 stays a 0
 still-low : (ls pulls : List Bool) (k : ℕ) → getD ls k false ≡ false → getD (pulledLow ls pulls) k false ≡ false
-still-low [] pulls k e = refl
-still-low (l ∷ ls) [] k e = e
-still-low (l ∷ ls) (p ∷ pulls) zero e = ap (λ b. b && not p) e
-still-low (l ∷ ls) (p ∷ pulls) (suc k) e = still-low ls pulls k e
+still-low ls pulls k e = level-pulled ls pulls k ∙ ap (λ b. b && not (getD pulls k false)) e
 
 -- where nothing pulls, a level stays
 as-it-was : (ls pulls : List Bool) (k : ℕ) → (getD pulls k false ≡ true → ⊥) → getD (pulledLow ls pulls) k false ≡ getD ls k false
-as-it-was [] pulls k h = refl
-as-it-was (l ∷ ls) [] k h = refl
-as-it-was (l ∷ ls) (true ∷ pulls) zero h = absurd (h refl)
-as-it-was (true ∷ ls) (false ∷ pulls) zero h = refl
-as-it-was (false ∷ ls) (false ∷ pulls) zero h = refl
-as-it-was (l ∷ ls) (p ∷ pulls) (suc k) h = as-it-was ls pulls k h
+as-it-was ls pulls k h =
+    level-pulled ls pulls k ∙ ap (λ p. getD ls k false && not p) (not-so (getD pulls k false) h) ∙ sym (and-true (getD ls k false))
+  where
+    not-so : (p : Bool) → (p ≡ true → ⊥) → p ≡ false
+    not-so true never = absurd (never refl)
+    not-so false never = refl
 
 -- every start bit is a 0
 start-low : (ys : List ℕ) (i j : ℕ) → i ≡ 10 * j → getD (levels ys) i false ≡ false
