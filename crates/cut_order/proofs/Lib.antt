@@ -1,1 +1,2 @@
 pub mod Pulls
+pub mod Readings
