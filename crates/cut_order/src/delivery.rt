@@ -1,5 +1,6 @@
 ghost use Rattle.cut_order.specs.Delivery.{Delivered, Disturbed};
-ghost use Rattle.std.specs.Vec.{made};
+ghost use Rattle.frame.specs.Message.{Fault};
+ghost use Rattle.std.specs.Results.{Cases};
 use crate::burst::Burst;
 use frame::MessageError;
 use frame::MessageErrorFromAlloc;
@@ -16,8 +17,8 @@ pub struct Delivery {
 }
 
 /// Sends a message over a quiet line: it reads as what was sent, at the last level.
-pub fn deliver(heap: Global, message: &[u8]) -> Result<Delivery, MessageError>
-    ensures { λ r. ⌜ made r (Delivered (now (message .entry))) ⌝ }
+pub(crate) fn deliver(heap: Global, message: &[u8]) -> Result<Delivery, MessageError>
+    ensures { λ r. ⌜ Cases r (Delivered (now (message .entry))) (Fault (now (message .entry))) ⌝ }
 {
     let levels = frame_levels(heap, message)?;
     let reading = read_frame(heap, &levels)?;
@@ -25,12 +26,12 @@ pub fn deliver(heap: Global, message: &[u8]) -> Result<Delivery, MessageError>
 }
 
 /// Sends a message over a line that a burst pulls: it does not read as another message.
-pub fn deliver_disturbed(
+pub(crate) fn deliver_disturbed(
     heap: Global,
     message: &[u8],
     burst: &Burst,
 ) -> Result<Delivery, MessageError>
-    ensures { λ r. ⌜ made r (Disturbed (now (message .entry)) (now (burst .entry))) ⌝ }
+    ensures { λ r. ⌜ Cases r (Disturbed (now (message .entry)) (now (burst .entry))) (Fault (now (message .entry))) ⌝ }
 {
     let sent = frame_levels(heap, message)?;
     let levels = burst.pull(heap, &sent)?;

@@ -1,9 +1,37 @@
-//! One cut order, followed from the nesting screen on.
+//! One cut order, followed from the nesting screen on. Each line that is printed is what the code computed.
 
 mod burst;
 mod delivery;
+mod drawing;
 mod order;
+mod screen;
+mod story;
+mod tally;
 
-fn main(rt: LibcRuntime) -> std::io::Result<()> {
-    println!(rt, "hello")
+use delivery::deliver;
+use frame::MessageErrorError;
+use screen::ORDER;
+use screen::PLANNER;
+use screen::SPREADER;
+use std::error::AnyError;
+
+fn follow(rt: &LibcRuntime) -> Result<(), AnyError> {
+    let heap = rt.alloc();
+    println!(rt, "A cut order, followed from the nesting screen on.")?;
+    let message = ORDER.message(heap, PLANNER, SPREADER)?;
+    story::tell_order(rt, &ORDER, &message)?;
+    story::tell_frame(rt, &message)?;
+    let delivery = deliver(heap, &message)?;
+    story::tell_levels(rt, &delivery)?;
+    story::tell_arbitration(rt)?;
+    story::tell_reading(rt, &message, &delivery)?;
+    story::tell_filters(rt, &message)?;
+    story::tell_burst(rt, &message)?;
+    story::tell_all_bursts(rt, &message, delivery.levels.len())?;
+    story::tell_promises(rt)?;
+    Ok(())
+}
+
+fn main(rt: LibcRuntime) -> Result<(), AnyError> {
+    rt.report(follow(&rt))
 }

@@ -46,7 +46,12 @@ fn push_lines(bytes: &mut Vec<u8>, lines: &[SizeLine]) -> Result<(), AllocError>
 
 impl CutOrder {
     /// The order as a message from a source to a destination.
-    pub fn message(&self, heap: Global, source: u8, destination: u8) -> Result<Vec<u8>, AllocError>
+    pub(crate) fn message(
+        &self,
+        heap: Global,
+        source: u8,
+        destination: u8,
+    ) -> Result<Vec<u8>, AllocError>
         ensures { λ r. ⌜ made r (λ v. vec-items v ≡ source ∷ destination ∷ 96 ∷ orderBytes (now (self .entry))) ⌝ }
     {
         let mut bytes = Vec::new(heap);

@@ -11,7 +11,7 @@ use std::alloc::Global;
 
 impl Burst {
     /// A burst of so many levels from a place on; nothing if it is longer than 16 or meets the length byte.
-    pub fn new(start: usize, count: usize) -> Option<Burst>
+    pub(crate) fn new(start: usize, count: usize) -> Option<Burst>
         ensures { λ r. ⌜ Made-of start count r ⌝ }
     {
         let before = start <= 20 && count <= 20 - start;
@@ -31,7 +31,7 @@ impl Burst {
     }
 
     /// The levels with the burst in them.
-    pub fn pull(&self, heap: Global, levels: &[bool]) -> Result<Vec<bool>, AllocError>
+    pub(crate) fn pull(&self, heap: Global, levels: &[bool]) -> Result<Vec<bool>, AllocError>
         ensures { λ r. ⌜ made r (λ v. vec-items v ≡ pulledLow (now (levels .entry)) (pulls (now (self .entry)))) ⌝ }
     {
         let mut pulled = Vec::new(heap);
