@@ -20,7 +20,7 @@ use frame::arbitrate;
 use frame::crc;
 use frame::read_frame;
 use frame::reversed_source;
-use model::floor_checks;
+use model::worked_examples;
 use std::error::AnyError;
 
 pub(crate) fn tell_order(
@@ -252,7 +252,7 @@ pub(crate) fn tell_all_bursts(
 }
 
 pub(crate) fn tell_promises(rt: &LibcRuntime) -> Result<(), AnyError> {
-    let examples = floor_checks();
+    let examples = worked_examples();
     println!(
         rt,
         "\nWhat stands behind this, proved for every message and not only for this order:"
@@ -276,7 +276,7 @@ pub(crate) fn tell_promises(rt: &LibcRuntime) -> Result<(), AnyError> {
     println!(rt, "                      are pulled low.")?;
     println!(
         rt,
-        "   model::floor_checks holds {examples} worked examples of the rules."
+        "   model::worked_examples holds {examples} worked examples of the rules."
     )?;
     Ok(())
 }

@@ -1,11 +1,10 @@
 -- A reader's buffer and the byte that comes in, as the rules see them.
 use mathlib.Core.Path.{_≡_, refl, sym, ap, _∙_}
 use mathlib.Core.Logic.{_≢_}
-use mathlib.Core.Bool.{Bool, true, false, cond, _&&_}
+use mathlib.Core.Bool.{Bool, true, false, cond}
 use mathlib.Core.List.{List, [], _∷_, _++_}
 use Prim.Native.Nat.{ℕ, suc, _+_, _*_, _/_, _≤_, _<_}
 use native.Mathlib.Omega.{arith}
-use lib.Dec.{leb, ltb, eqb}
 use lib.ListN.{length, getD, set, take, drop, length-set}
 use Rattle.std.proofs.shelf.Lists.{take-more-set, length-take-le, getD-take, getD-set-other, drop-append-le}
 use Rattle.std.proofs.shelf.Ways.{tells}
@@ -13,6 +12,7 @@ use Rattle.model.specs.Bits.{bit, bits}
 use Rattle.model.specs.Frames.{maxData, lengthByte}
 use Rattle.model.specs.Reading.{Step, between, goes, endsBroken, endsRight, tooLong, complete, crcRight, judged}
 use Rattle.model.proofs.Bits.{length-bits, bits-top}
+use Rattle.model.proofs.Judged.{not-too-long, not-complete}
 use Rattle.frame.specs.Phase.{goesOn}
 
 -- ---- room for one byte more
@@ -34,12 +34,6 @@ goes-says true xs e = goes-by (tooLong xs) (complete xs) (crcRight xs) xs e
 
 goesOn-more : (n old l : ℕ) → goesOn n old ≡ true → (n ≢ 2 → l ≡ old) → (n ≡ 2 → l ≤ maxData) → (2 ≤ n → n + 1 ≢ l + 5) → goesOn (n + 1) l ≡ true
 goesOn-more n old l h same small more = grind (arith, tells)
-
-not-too-long : (n l : ℕ) → (eqb n 3 && ltb maxData l) ≡ false → n ≡ 3 → l ≤ maxData
-not-too-long n l e h = grind (arith, tells)
-
-not-complete : (n l : ℕ) → (leb 3 n && eqb n (l + 5)) ≡ false → 3 ≤ n → n ≢ l + 5
-not-complete n l e h = grind (arith, tells)
 
 -- after a byte that does not end the frame there is room again
 pub room-again : (bs : List ℕ) (n v : ℕ) (stop : Bool) → length bs ≡ 258 → goesOn n (lengthByte bs) ≡ true

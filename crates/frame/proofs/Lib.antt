@@ -1,3 +1,4 @@
 pub mod Table
+pub mod Pushed
 pub mod Buffer
 pub mod Steps

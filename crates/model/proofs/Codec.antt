@@ -1,15 +1,13 @@
 -- What is sent is read, and what is read was sent.
 use mathlib.Core.Path.{_≡_, refl, sym, ap, ap₂, _∙_, subst}
-use mathlib.Core.Bool.{Bool, true, false, cond, _&&_}
+use mathlib.Core.Bool.{Bool, true, false, cond}
 use mathlib.Core.List.{List, [], _∷_, _++_, append-assoc, append-nil}
 use Prim.Native.Nat.{ℕ, zero, suc, _+_, _-_, _*_, _/_, _%_, _^_, _≤_, _<_}
 use native.Mathlib.Omega.{arith}
-use lib.Dec.{leb, ltb, eqb}
 use lib.ListN.{length, getD, take, drop, length-append}
 use lib.Seq.{drop-cons}
 use Rattle.std.proofs.shelf.Lists.{getD-append-left, getD-take, take-append-drop, length-take-le, drop-all, length-push}
 use Rattle.std.proofs.shelf.Tests.{eqb-true, and-parts, cases-lt}
-use Rattle.std.proofs.shelf.Ways.{tells}
 use mathlib.Core.Logic.{⊎-elim}
 use Rattle.model.specs.Bits.{bits, number}
 use Rattle.model.specs.Crc.{sentBits, crcOf}
@@ -20,7 +18,7 @@ use Rattle.model.specs.Codec.{Unfinished, Reads-back, Frame-of, Codec}
 use Rattle.model.proofs.Bits.{number-bits, byte-lt, bits-byte}
 use Rattle.model.proofs.CrcRegister.{fedAll-lt}
 use Rattle.model.proofs.Levels.{levels-++, bytes-++}
-use Rattle.model.proofs.Judged.{length-framed, front-goes, frame-ends}
+use Rattle.model.proofs.Judged.{not-too-long, complete-is, length-framed, front-goes, frame-ends}
 
 -- how many levels are left over; 1 where there is no right end
 over : Heard → ℕ
@@ -107,9 +105,6 @@ gap-more xs ls h = record {
   enough = simp length-append (omega (arith, h .enough));
   gapless = λ e. absurd (omega (arith, simp length-append at e, h .enough));
 }
-
-not-too-long : (n l : ℕ) → (eqb n 3 && ltb maxData l) ≡ false → n ≡ 3 → l ≤ maxData
-not-too-long n l e h = grind (arith, tells)
 
 -- a byte more, before it is judged
 byte-more : (xs : List ℕ) (bs ls : List Bool) → length bs ≡ 8 → So-far xs (false ∷ bs) ls → tooLong (xs ++ (number bs ∷ [])) ≡ false
@@ -202,9 +197,6 @@ last-two xs h =
 -- two bytes that write the CRC are its low and its high byte
 crc-parts : (c a b : ℕ) → c ≡ a + b * 256 → a < 256 → (a ≡ c % 256) × (b ≡ c / 256)
 crc-parts c a b e h = (omega arith, omega arith)
-
-complete-is : (n l : ℕ) → (leb 3 n && eqb n (l + 5)) ≡ true → n ≡ l + 5
-complete-is n l e = grind (arith, tells)
 
 -- the bytes of a right end are a message with its CRC
 right-framed : (xs : List ℕ) → Bytes xs → length xs ≡ lengthByte xs + 5 → crcRight xs ≡ true → xs ≡ framed (take (length xs - 2) xs)

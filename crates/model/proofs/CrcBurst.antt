@@ -1,7 +1,6 @@
 -- A change within 16 bits in a row is noticed.
 use mathlib.Core.Path.{_≡_, sym, ap, _∙_}
 use mathlib.Core.Bool.{Bool}
-use mathlib.Core.Logic.{_≢_}
 use mathlib.Core.List.{List, _++_}
 use Prim.Native.Nat.{ℕ, _^_, _<_, _≤_}
 use native.Mathlib.Nat.{lt-of-lt-of-le}
@@ -18,7 +17,7 @@ number-small : (bs : List Bool) → length bs ≤ 16 → number bs < 2 ^ 16
 number-small bs h = lt-of-lt-of-le (number-lt bs) (pow-mono h)
 
 -- from one register, two windows of at most 16 bits that lead to the same register are the same
-pub window : (c : ℕ) → c < 2 ^ 16 → (u v : List Bool) → length u ≤ 16 → length v ≡ length u → fedAll c v ≡ fedAll c u → v ≡ u
+window : (c : ℕ) → c < 2 ^ 16 → (u v : List Bool) → length u ≤ 16 → length v ≡ length u → fedAll c v ≡ fedAll c u → v ≡ u
 window c hc u v small same e =
     number-apart v u same
     (xor-cancel (number v) (number u) c
@@ -40,8 +39,3 @@ same-window c hc before u v after small same e =
   where
     three : (w : List Bool) → fedAll c (before ++ w ++ after) ≡ fedAll (fedAll (fedAll c before) w) after
     three w = fedAll-++ c (before ++ w) after ∙ ap (λ x. fedAll x after) (fedAll-++ c before w)
-
-pub burst-detected : (c : ℕ) → c < 2 ^ 16 → (before u v after : List Bool)
-    → length u ≤ 16 → length v ≡ length u → v ≢ u
-    → fedAll c (before ++ v ++ after) ≢ fedAll c (before ++ u ++ after)
-burst-detected c hc before u v after small same ne e = ne (same-window c hc before u v after small same e)

@@ -1,5 +1,6 @@
 -- How a frame is judged at a stop bit.
 use mathlib.Core.Path.{_≡_, refl, sym, ap, ap₂, _∙_}
+use mathlib.Core.Logic.{_≢_}
 use mathlib.Core.Bool.{Bool, true, false, cond, _&&_}
 use mathlib.Core.List.{List, [], _∷_, _++_, append-assoc}
 use Prim.Native.Nat.{ℕ, _+_, _-_, _*_, _/_, _%_, _≤_, _<_}
@@ -25,16 +26,25 @@ judged-right p a b c =
     ∙ ap (λ x. cond x (cond (crcRight p) (endsRight p) (endsBroken p)) (goes (between p))) b
     ∙ ap (λ x. cond x (endsRight p) (endsBroken p)) c
 
--- ---- the tests, on numbers
+-- ---- the tests, on a number of bytes and a length byte
 
 not-long : (n l : ℕ) → (n ≡ 3 → l ≤ maxData) → (eqb n 3 && ltb maxData l) ≡ false
 not-long n l h = grind (arith, tells)
 
+pub not-too-long : (n l : ℕ) → (eqb n 3 && ltb maxData l) ≡ false → n ≡ 3 → l ≤ maxData
+not-too-long n l e h = grind (arith, tells)
+
 not-all : (n l : ℕ) → (3 ≤ n → n < l + 5) → (leb 3 n && eqb n (l + 5)) ≡ false
 not-all n l h = grind (arith, tells)
 
+pub not-complete : (n l : ℕ) → (leb 3 n && eqb n (l + 5)) ≡ false → 3 ≤ n → n ≢ l + 5
+not-complete n l e h = grind (arith, tells)
+
 all-read : (n l : ℕ) → n ≡ l + 5 → (leb 3 n && eqb n (l + 5)) ≡ true
 all-read n l h = grind (arith, tells)
+
+pub complete-is : (n l : ℕ) → (leb 3 n && eqb n (l + 5)) ≡ true → n ≡ l + 5
+complete-is n l e = grind (arith, tells)
 
 -- ---- a frame's bytes, judged one after the other
 

@@ -8,4 +8,4 @@ pub mod Codec
 pub mod Gapless
 pub mod LevelBits
 pub mod Disturbance
-pub mod FloorChecks
+pub mod WorkedExamples

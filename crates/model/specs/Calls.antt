@@ -4,6 +4,7 @@ use mathlib.Core.Logic.{_⊎_}
 use mathlib.Core.Bool.{Bool, true, false, cond, not}
 use mathlib.Core.List.{List, [], _∷_, _++_}
 use Prim.Native.Nat.{ℕ, zero, suc, _-_, _≤_, _<_, min}
+use lib.Dec.{eqb}
 use lib.ListN.{length, take, drop, replicate}
 use Rattle.model.specs.Controller.{pageSize, Table, new, readPage}
 use Rattle.model.specs.RegisterRule.{isReady, interrupts}
@@ -17,6 +18,10 @@ refusesNew t = cond (sized t) 0 1
 
 unfoldable pub newTable : ℕ → Table
 newTable n = replicate n new
+
+-- the table after it is made new; a refusal leaves it as found
+unfoldable pub renewed : Table → Table
+renewed t = cond (eqb (refusesNew t) 0) (newTable (length t)) t
 
 -- ---- run
 
@@ -34,6 +39,10 @@ pub record Runs (k limit : ℕ) (t : Table) (n : ℕ) : Type 0 where
   pub stops : (interrupts (at (later n t) k) ≡ true) ⊎ (n ≡ limit)
   pub least : (m : ℕ) → m < n → interrupts (at (later m t) k) ≡ false
 
+-- the table after a run that made n bit times; a refusal leaves it as found
+unfoldable pub afterRun : ℕ → ℕ → Table → Table
+afterRun k n t = cond (eqb (refusesRun k t) 0) (later n t) t
+
 -- ---- look
 
 -- 9: no page ready
@@ -48,6 +57,6 @@ looked k place t buffer = take (min buffer (pageSize - place)) (drop place (read
 unfoldable pub lookCount : ℕ → ℕ → Table → ℕ → ℕ
 lookCount k place t buffer = length (looked k place t buffer)
 
--- the buffer after a look, from its place 0 on; the table stays
+-- the buffer after a look, from its place 0 on; a refusal leaves it as found, and the table stays either way
 unfoldable pub bufferLooked : ℕ → ℕ → Table → List ℕ → List ℕ
-bufferLooked k place t buffer = putInto buffer 0 (looked k place t (length buffer))
+bufferLooked k place t buffer = cond (eqb (refusesLook k t) 0) (putInto buffer 0 (looked k place t (length buffer))) buffer

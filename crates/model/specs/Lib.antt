@@ -15,4 +15,4 @@ pub mod Calls
 pub mod Histories
 pub mod Codec
 pub mod Disturbance
-pub mod FloorChecks
+pub mod WorkedExamples

@@ -13,15 +13,15 @@ use Rattle.model.specs.Registers.{txCtrlNumber}
 use Rattle.model.specs.Controller.{Table, isFree}
 use Rattle.model.specs.Operations.{write, at, sized, refusal}
 
-pub data Check : Type 0 where
-  crcIs : (message : List ℕ) (crc low high : ℕ) → Check
-  goesBefore : (source itsReversed other otherReversed : ℕ) → Check
-  takesLevels : (dataBytes count : ℕ) → Check
-  startGets : (lengthByte number : ℕ) → Check
-  filterSays : (filters : Filters) (source destination : ℕ) (accepted : Bool) → Check
+pub data Example : Type 0 where
+  crcIs : (message : List ℕ) (crc low high : ℕ) → Example
+  goesBefore : (source itsReversed other otherReversed : ℕ) → Example
+  takesLevels : (dataBytes count : ℕ) → Example
+  startGets : (lengthByte number : ℕ) → Example
+  filterSays : (filters : Filters) (source destination : ℕ) (accepted : Bool) → Example
 
 -- what each kind of entry says
-abbrev pub Holds : Check → Type 0
+abbrev pub Holds : Example → Type 0
 Holds (crcIs xs crc low high) = (crcOf xs ≡ crc) × (framed xs ≡ xs ++ (low ∷ high ∷ []))
 Holds (goesBefore a ra b rb) = (reversed a ≡ ra) × (reversed b ≡ rb) × (ra < rb) × Keeps-line a b
 Holds (takesLevels l n) = (xs : List ℕ) → Message xs → lengthByte xs ≡ l → length (frameLevels xs) ≡ n
@@ -34,8 +34,8 @@ Holds (filterSays f source destination accepted) = accepts f source destination 
 abbrev pub twoFilters : Filters
 twoFilters = record { filter = 0x0D; filter1 = 0x20; filter2 = 0xFF }
 
-abbrev pub floorChecks : List Check
-floorChecks =
+abbrev pub workedExamples : List Example
+workedExamples =
     crcIs (0x0C ∷ 0x0D ∷ 0x01 ∷ 0xCD ∷ []) 0xB252 0x52 0xB2
     ∷ goesBefore 0x0C 0x30 0x0D 0xB0
     ∷ takesLevels 0 50
@@ -46,6 +46,6 @@ floorChecks =
     ∷ filterSays twoFilters 0x0C 0x21 false
     ∷ []
 
-abbrev pub Every : (Check → Type 0) → List Check → Type 0
+abbrev pub Every : (Example → Type 0) → List Example → Type 0
 Every P [] = Unit {0}
-Every P (c ∷ cs) = P c × Every P cs
+Every P (e ∷ es) = P e × Every P es

@@ -14,7 +14,7 @@ use Rattle.model.specs.Registers.{txCtrlNumber}
 use Rattle.model.specs.Controller.{Table, isFree}
 use Rattle.model.specs.RegisterRule.{takesStart, startsTooLong}
 use Rattle.model.specs.Operations.{write, at, sized, firstOf, refusal}
-use Rattle.model.specs.FloorChecks.{Check, startGets, Holds, floorChecks, Every}
+use Rattle.model.specs.WorkedExamples.{startGets, Holds, workedExamples, Every}
 use Rattle.model.proofs.Arbitration.{lower-keeps-line}
 use Rattle.model.proofs.Levels.{length-frame}
 
@@ -37,7 +37,7 @@ start l n e t k size in-table none is =
     twice true = refl
     twice false = refl
 
-pub all-hold : Every Holds floorChecks
+pub all-hold : Every Holds workedExamples
 unfolding shifted reversed number
 all-hold =
     ((refl, refl), ((refl, refl, omega arith, lower-keeps-line 0x0C 0x0D (omega arith)), (levels-of 0 50 refl, (levels-of 253 2580 refl, (start 253 0 refl, (start 254 6 refl, (refl, (refl, tt))))))))
