@@ -1,2 +1,0 @@
-pub mod Pulls
-pub mod Readings

@@ -1,15 +1,12 @@
 //! One cut order, followed from the nesting screen on. Each line that is printed is what the code computed.
 
-mod burst;
-mod delivery;
 mod drawing;
-mod order;
 mod screen;
 mod story;
 mod tally;
 
-use delivery::deliver;
 use frame::MessageErrorError;
+use order::deliver;
 use screen::ORDER;
 use screen::PLANNER;
 use screen::SPREADER;

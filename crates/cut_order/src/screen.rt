@@ -1,7 +1,7 @@
 //! What the nesting screen shows, and the stations on the line.
 
-use crate::order::CutOrder;
-use crate::order::SizeLine;
+use order::CutOrder;
+use order::SizeLine;
 
 /// The planner's controller, from which orders go out.
 pub const PLANNER: u8 = 0x0D;

@@ -1,10 +1,6 @@
 //! The steps of an order, told one by one.
 
-use crate::burst::Burst;
-use crate::delivery::Delivery;
-use crate::delivery::deliver_disturbed;
 use crate::drawing;
-use crate::order::CutOrder;
 use crate::screen::KNIFE;
 use crate::screen::PLANNER;
 use crate::screen::PLOTTER;
@@ -21,6 +17,10 @@ use frame::crc;
 use frame::read_frame;
 use frame::reversed_source;
 use model::worked_examples;
+use order::Burst;
+use order::CutOrder;
+use order::Delivery;
+use order::deliver_disturbed;
 use std::error::AnyError;
 
 pub(crate) fn tell_order(

@@ -1,9 +1,11 @@
 //! What a frame reads as under every burst of a length.
-
-use crate::burst::Burst;
-use crate::delivery::deliver_disturbed;
+ghost use mathlib.Core.Path.{_≡_};
+ghost use Rattle.order.specs.Delivery.{Never-other};
+ghost use Rattle.std.specs.Vec.{made};
 use frame::MessageError;
 use frame::Reading;
+use order::Burst;
+use order::deliver_disturbed;
 use std::alloc::Global;
 
 /// How often a disturbed frame read as the message, as another, or not as right.
@@ -17,7 +19,11 @@ pub struct Tally {
 }
 
 impl Tally {
-    fn note(&mut self, message: &[u8], reading: Reading) {
+    /// One reading more, of levels that never read as another message.
+    fn note(&mut self, message: &[u8], reading: &Reading)
+        requires { ⌜ Never-other (now message) (now reading) ⌝ }
+        ensures { λ _. ⌜ now (self .exit) .other ≡ now (self .entry) .other ⌝ }
+    {
         self.bursts = self.bursts.saturating_add(1);
         match reading {
             Reading::Right { bytes, levels: _ } => {
@@ -36,13 +42,15 @@ impl Tally {
     }
 }
 
-/// Every burst of so many levels that starts at one of the places and is covered by the promise.
+/// Tries every burst of so many levels that starts before a place and that the promise covers.
 pub(crate) fn every_burst(
     heap: Global,
     message: &[u8],
     places: usize,
     count: usize,
-) -> Result<Tally, MessageError> {
+) -> Result<Tally, MessageError>
+    ensures { λ r. ⌜ made r (λ t. t .other ≡ 0) ⌝ }
+{
     let mut tally = Tally {
         bursts: 0,
         same: 0,
@@ -53,7 +61,7 @@ pub(crate) fn every_burst(
     for start in 0..places {
         if let Some(burst) = Burst::new(start, count) {
             let delivery = deliver_disturbed(heap, message, &burst)?;
-            tally.note(message, delivery.reading);
+            tally.note(message, &delivery.reading);
         }
     }
     Ok(tally)

@@ -10,7 +10,7 @@ use Rattle.std.proofs.shelf.Lists.{drop-more}
 use Rattle.std.proofs.shelf.Tests.{and-parts, leb-true}
 use Rattle.model.specs.Bits.{bit, bits}
 use Rattle.model.specs.Frames.{lengthByte}
-use Rattle.model.specs.Reading.{Reading, Step, inside, goes, reads, judged, heard, heardOn}
+use Rattle.model.specs.Reading.{Reading, hunting, Step, inside, goes, reads, judged, heard, heardOn}
 use Rattle.model.proofs.Bits.{number-bits}
 use Rattle.frame.specs.declared.reader.Phase.{Phase}
 use Rattle.frame.specs.declared.reader.Phase.the-variants.{Inside}
@@ -39,6 +39,9 @@ unfinished-not-ended p is e = let no : _≡_ {A = ℕ} 0 1 = cc (ap ended is) in
 pub left-bits : (phase : Phase) (n : ℕ) (bs : List ℕ) (left value : ℕ) → phase ≡ Inside left value → sound phase n bs ≡ true → left ≤ 8
 left-bits phase n bs left value is ok =
     leb-true left 8 (and-parts (goesOn n (lengthByte bs)) (leb left 8) (subst (λ p. sound p n bs ≡ true) is ok) .1)
+
+pub not-hunting : (phase : Phase) (xs : List ℕ) (left value : ℕ) → phase ≡ Inside left value → standing phase xs ≡ hunting → ⊥
+not-hunting phase xs left value is e = let no : _≡_ {A = ℕ} 0 1 = cc (ap (λ p. standing p xs) is) in omega arith
 
 -- at the stop bit
 pub stop-heard : (level : Bool) (phase : Phase) (xs : List ℕ) (left value : ℕ) → phase ≡ Inside left value → left ≡ 0 → value < 256

@@ -95,6 +95,7 @@ impl FrameReader {
     pub fn hear(&mut self, level: bool) -> Progress
         ensures step { λ r. ⌜ reads level (reading (now (self .entry))) ≡ stepped r (now (self .exit)) ⌝ }
         ensures hunts { λ r. ⌜ (ended r ≡ true → reading (now (self .exit)) ≡ hunting) ⌝ }
+        ensures keeps { λ _. ⌜ (reading (now (self .entry)) ≡ hunting → now (self .exit) ≡ now (self .entry)) ⌝ }
     {
         match self.phase {
             Phase::Hunting => Progress::Unfinished,

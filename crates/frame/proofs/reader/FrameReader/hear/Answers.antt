@@ -4,7 +4,7 @@ use native.Mathlib.Omega.{arith}
 use Rattle.std.proofs.shelf.Tests.{false≢true}
 use Rattle.model.specs.Bits.{bit}
 use Rattle.frame.specs.Reader.{bytesOf}
-use Rattle.frame.proofs.Steps.{left-bits, stop-heard, bit-heard}
+use Rattle.frame.proofs.Steps.{left-bits, not-hunting, stop-heard, bit-heard}
 use Rattle.frame.proofs.reader.FrameReader.hear.Needs as need
 use Rattle.frame.proofs.reader.FrameReader.hear.Needs.{then-level, else-level}
 
@@ -16,6 +16,7 @@ returns-then-left-eq0 c =
           (c .if-left-eq0 .taken) (omega arith)
           ∙ c .end-byte .ensures .step;
       hunts = c .end-byte .ensures .hunts;
+      keeps = λ e. absurd (not-hunting (r .phase) (bytesOf r) (c .in-Inside .left) (c .in-Inside .value) (c .in-Inside .is) e);
     }
 
 pub returns-after-level : need.returns-after-level
@@ -32,4 +33,5 @@ returns-after-level c =
           (c .if-left-eq0 .left) (left-bits (r .phase) (r .count) (r .bytes) (c .in-Inside .left) (c .in-Inside .value) (c .in-Inside .is) (r .fits))
           (omega arith) top;
       hunts = λ e. absurd (false≢true e);
+      keeps = λ e. absurd (not-hunting (r .phase) (bytesOf r) (c .in-Inside .left) (c .in-Inside .value) (c .in-Inside .is) e);
     }

@@ -1,0 +1,3 @@
+pub mod Lines
+pub mod Pulls
+pub mod Readings

@@ -1,0 +1,15 @@
+-- A cut order as the data bytes of a message. Numbers stand low byte first.
+use mathlib.Core.List.{List, [], _∷_, _++_}
+use Prim.Native.Nat.{ℕ, _/_, _%_}
+use Rattle.std.specs.Joined.{joined}
+use Rattle.order.specs.declared.cut.SizeLine.{SizeLine}
+use Rattle.order.specs.declared.cut.CutOrder.{CutOrder}
+
+abbrev pub lineBytes : SizeLine → List ℕ
+lineBytes l = l .size ∷ l .plies % 256 ∷ l .plies / 256 % 256 ∷ l .pieces ∷ []
+
+abbrev pub markerBytes : ℕ → List ℕ
+markerBytes n = n % 256 ∷ n / 256 % 256 ∷ n / 65536 % 256 ∷ n / 16777216 % 256 ∷ []
+
+abbrev pub orderBytes : CutOrder → List ℕ
+orderBytes o = markerBytes (o .marker) ++ joined lineBytes (o .lines)
