@@ -5,8 +5,8 @@ use mathlib.Core.List.{List}
 use Prim.Native.Nat.{ℕ}
 use lib.ListN.{length}
 use Rattle.std.specs.Of.Vec.{vec-items}
-use Rattle.model.specs.Frames.{framed, frameLevels}
-use Rattle.model.specs.Disturbance.{pulledLow}
+use Rattle.model.specs.Frames.{Message, framed, frameLevels}
+use Rattle.model.specs.Disturbance.{pulledLow, Short-burst}
 use Rattle.frame.specs.declared.reader.read.Reading.{Reading}
 use Rattle.frame.specs.declared.reader.read.Reading.the-variants.{Right, Broken, Unfinished}
 use Rattle.order.specs.declared.burst.Burst.{Burst}
@@ -24,6 +24,19 @@ abbrev pub Never-other : List ℕ → Reading → Type 0
 Never-other m (Right bytes n) = vec-items bytes ≡ framed m
 Never-other m (Broken bytes n) = Unit {0}
 Never-other m Unfinished = Unit {0}
+
+-- what a receiver makes of levels: those of a message's frame read right, and with a short burst never as another's
+pub record Heard-by (ls : List Bool) (d : Delivery) : Type 0 where
+  pub same : vec-items (d .levels) ≡ ls
+  pub reads-right : (m : List ℕ) → Message m → ls ≡ frameLevels m → Reads-right m ls (d .reading)
+  pub never-other : (m : List ℕ) → Message m → (start : ℕ) (ps : List Bool) → Short-burst start ps
+      → ls ≡ pulledLow (frameLevels m) ps → Never-other m (d .reading)
+
+-- the levels of a message's frame with a short burst in them
+pub record Pulled-frame (m : List ℕ) (b : Burst) (ls : List Bool) : Type 0 where
+  pub message : Message m
+  pub short : Short-burst (b .start) (pulls b)
+  pub pulled : ls ≡ pulledLow (frameLevels m) (pulls b)
 
 abbrev pub Delivered : List ℕ → Delivery → Type 0
 Delivered m d = (vec-items (d .levels) ≡ frameLevels m) × Reads-right m (vec-items (d .levels)) (d .reading)
