@@ -6,14 +6,18 @@ use Prim.Native.Nat.{ℕ, _+_, _*_, _<_}
 use native.Mathlib.Omega.{arith}
 use borrow.Author.Tests.{lt-leb}
 use lib.Dec.{leb, ltb}
-use lib.ListN.{length}
+use lib.ListN.{length, drop}
 use Rattle.model.specs.Bits.{number, has, reversed}
 use Rattle.model.specs.Crc.{shifted}
 use Rattle.model.specs.Frames.{lengthByte, Message, frameLevels}
 use Rattle.model.specs.Registers.{txCtrlNumber}
-use Rattle.model.specs.Controller.{Table, isFree}
-use Rattle.model.specs.RegisterRule.{takesStart, startsTooLong}
-use Rattle.model.specs.Operations.{write, at, sized, firstOf, refusal}
+use Rattle.model.specs.Controller.{Table, new, isFree, readPage}
+use Rattle.model.specs.RegisterRule.{takesStart, startsTooLong, aborts, addressed, clearsRx, clearsTx, gives, givesAll, keeps, leaves, leavesAll, starts, stores, txControl, writes, writesAll, zeroesPointer, idle}
+use Rattle.model.specs.BitTime.{begins, begun, counts, drawsBack, drives, endBroken, endRight, filled, finishes, follows, givesUp, inLast, inSource, lineLevel, listens, marks, nextLevel, noticed, pageOf, ticked, timesOut, transmits, wanted}
+use Rattle.model.specs.Operations.{write, at, sized, refusal, accepted, done, then}
+use Rattle.model.specs.Reading.{crcRight}
+use Rattle.model.specs.Wires.{spi, i2c}
+use Rattle.model.specs.Calls.{newTable}
 use Rattle.model.specs.WorkedExamples.{startGets, Holds, workedExamples, Every}
 use Rattle.model.proofs.Arbitration.{lower-keeps-line}
 use Rattle.model.proofs.Levels.{length-frame}
@@ -37,7 +41,12 @@ start l n e t k size in-table none is =
     twice true = refl
     twice false = refl
 
+-- the histories and the transfers, computed
+computed : Every Holds (drop 8 workedExamples)
+unfolding aborts accepted addressed begins begun clearsRx clearsTx counts crcRight done drawsBack drives endBroken endRight filled finishes follows gives givesAll givesUp has i2c idle inLast inSource keeps leaves leavesAll lineLevel listens marks new newTable nextLevel noticed number pageOf readPage refusal shifted spi starts startsTooLong stores takesStart then ticked timesOut transmits txControl wanted writes writesAll zeroesPointer
+computed = (refl, (refl, (refl, (refl, (refl, (refl, (refl, tt)))))))
+
 pub all-hold : Every Holds workedExamples
 unfolding shifted reversed number
 all-hold =
-    ((refl, refl), ((refl, refl, omega arith, lower-keeps-line 0x0C 0x0D (omega arith)), (levels-of 0 50 refl, (levels-of 253 2580 refl, (start 253 0 refl, (start 254 6 refl, (refl, (refl, tt))))))))
+    ((refl, refl), ((refl, refl, omega arith, lower-keeps-line 0x0C 0x0D (omega arith)), (levels-of 0 50 refl, (levels-of 253 2580 refl, (start 253 0 refl, (start 254 6 refl, (refl, (refl, computed))))))))

@@ -7,7 +7,7 @@ ghost use Rattle.model.specs.WorkedExamples.{Every, Holds, workedExamples};
 fn count() -> usize
     ensures { λ r. ⌜ r ≡ length workedExamples ⌝ }
 {
-    8
+    15
 }
 
 /// How many worked examples there are, each of which is proved.
