@@ -13,6 +13,7 @@ use Rattle.model.specs.RegisterRule.{idle}
 
 -- ---- 1. who begins
 
+-- a transmitter in another state
 abbrev pub withState : TransmitState → Transmitter → Transmitter
 withState s t = record {
   written = t .written;
@@ -28,6 +29,7 @@ withState s t = record {
 unfoldable pub begins : Controller → Bool
 begins c = isWaiting (c .tx .state) && leb (c .settings .idleWait + c .settings .txWait) (c .rx .ones)
 
+-- the transmitter of a controller that begins, if it does
 unfoldable pub begun : Controller → Transmitter
 begun c = withState (cond (begins c) (sending 0) (c .tx .state)) (c .tx)
 
@@ -43,13 +45,16 @@ nextLevel free frame = true
 nextLevel waiting frame = true
 nextLevel (sending p) frame = getD frame p true
 
+-- the level that a transmitter drives
 unfoldable pub drives : Transmitter → Bool
 drives t = nextLevel (t .state) (frameOf t)
 
+-- each of these is true
 abbrev pub all : List Bool → Bool
 all [] = true
 all (b ∷ bs) = b && all bs
 
+-- the level that a controller drives, having begun if it does
 abbrev pub driving : Controller → Bool
 driving c = drives (begun c)
 
@@ -75,15 +80,19 @@ inLast (sending p) frame = eqb (suc p) (length frame)
 unfoldable pub drawsBack : Bool → Transmitter → Bool
 drawsBack level t = inSource (t .state) && drives t && not level
 
+-- the conflict at which a page is given up
 abbrev pub maxConflicts : ℕ
 maxConflicts = 16
 
+-- draws back for the last time
 unfoldable pub givesUp : Bool → Transmitter → Bool
 givesUp level t = drawsBack level t && eqb (suc (t .conflicts)) maxConflicts
 
+-- has driven its last stop bit
 unfoldable pub finishes : Bool → Transmitter → Bool
 finishes level t = not (drawsBack level t) && inLast (t .state) (frameOf t)
 
+-- one level further
 abbrev pub onward : TransmitState → TransmitState
 onward free = free
 onward waiting = waiting
@@ -157,6 +166,7 @@ endBroken s xs r = record {
 
 -- ---- 4. to 6. what the receiver makes of the level
 
+-- a receiver that stands elsewhere in its reading
 abbrev pub withReading : Reading → Receiver → Receiver
 withReading x r = record {
   ring = r .ring;
@@ -187,9 +197,11 @@ listens level c =
 
 -- ---- 7. the ones count
 
+-- the ones count goes no higher
 abbrev pub maxOnes : ℕ
 maxOnes = 510
 
+-- on a 1 the count rises, on a 0 it is 0
 unfoldable pub counts : Bool → Receiver → Receiver
 counts level r = record {
   ring = r .ring;
@@ -218,6 +230,7 @@ pub record Marks : Type 0 where
   pub gaveUp : Bool
   pub madeReady : Bool
 
+-- the page that was made ready is told by the number of ready pages
 unfoldable pub marks : Bool → Controller → Marks
 marks level c = record {
   began = begins c;

@@ -9,6 +9,7 @@ abbrev pub bit : Bool → ℕ
 bit true = 1
 bit false = 0
 
+-- the lowest bit is 1
 abbrev pub odd : ℕ → Bool
 odd x = eqb (x % 2) 1
 

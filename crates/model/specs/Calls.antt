@@ -16,6 +16,7 @@ use Rattle.model.specs.Operations.{bitTime, at, sized, firstOf, refusesControl
 unfoldable pub refusesNew : Table → ℕ
 refusesNew t = cond (sized t) 0 1
 
+-- a table of n new controllers
 unfoldable pub newTable : ℕ → Table
 newTable n = replicate n new
 
@@ -25,6 +26,7 @@ renewed t = cond (eqb (refusesNew t) 0) (newTable (length t)) t
 
 -- ---- run
 
+-- 1 and 2, as for each call that names a controller
 unfoldable pub refusesRun : ℕ → Table → ℕ
 refusesRun k t = firstOf (refusesController k t)
 

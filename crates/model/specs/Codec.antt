@@ -27,6 +27,7 @@ pub record Frame-of (m bytes : List ℕ) (ls : List Bool) : Type 0 where
   pub with-crc : bytes ≡ framed m
   pub as-levels : ls ≡ frameLevels m
 
+-- both ways
 pub record Codec : Type 0 where
   pub starts-idle : (ls : List Bool) → heard afterIdle (false ∷ ls) ≡ heard (opened false) ls
   pub sent-is-read : (m : List ℕ) → Message m → Reads-back m

@@ -6,9 +6,11 @@ use lib.ListN.{getD, replicate}
 use Rattle.model.specs.Filter.{Filters}
 use Rattle.model.specs.Reading.{Reading, hunting}
 
+-- the bytes of a page
 abbrev pub pageSize : ℕ
 pageSize = 256
 
+-- the RX pages of a controller
 abbrev pub rxPages : ℕ
 rxPages = 8
 
@@ -27,6 +29,7 @@ pub data TransmitState : Type 0 where
   waiting : TransmitState
   sending : ℕ → TransmitState
 
+-- the sending half, with its two pages
 pub record Transmitter : Type 0 where
   pub written : List ℕ  -- the page that TX writes
   pub other : List ℕ  -- the other page: if one waits, this one does
@@ -36,6 +39,7 @@ pub record Transmitter : Type 0 where
   pub txCd : Bool
   pub txError : Bool
 
+-- an RX page, as it was last filled
 pub record Page : Type 0 where
   pub bytes : List ℕ
   pub flag : ℕ  -- 0 for a right frame, else the place of a broken frame's last byte, at most 255
@@ -46,6 +50,7 @@ pub record PageRing : Type 0 where
   pub read : ℕ
   pub ready : ℕ
 
+-- the receiving half
 pub record Receiver : Type 0 where
   pub ring : PageRing
   pub address : ℕ  -- RX_ADDR
@@ -54,11 +59,13 @@ pub record Receiver : Type 0 where
   pub reading : Reading
   pub ones : ℕ  -- levels 1 since the last 0
 
+-- all of it
 pub record Controller : Type 0 where
   pub settings : Settings
   pub tx : Transmitter
   pub rx : Receiver
 
+-- the controllers on one line, by their numbers
 abbrev pub Table : Type 0
 Table = List Controller
 
@@ -66,6 +73,7 @@ Table = List Controller
 abbrev pub emptyPage : Page
 emptyPage = record { bytes = replicate pageSize 0; flag = 0 }
 
+-- as it is when the table is made
 unfoldable pub new : Controller
 new = record {
   settings = record {
@@ -97,11 +105,13 @@ new = record {
 
 -- ---- looking at a controller
 
+-- no page waits
 abbrev pub isFree : TransmitState → Bool
 isFree free = true
 isFree waiting = false
 isFree (sending p) = false
 
+-- a page waits and is not being sent
 abbrev pub isWaiting : TransmitState → Bool
 isWaiting free = false
 isWaiting waiting = true
@@ -115,5 +125,6 @@ nextPage p = (p + 1) % rxPages
 abbrev pub fillPage : PageRing → ℕ
 fillPage g = (g .read + g .ready) % rxPages
 
+-- the page that RX gives bytes of
 unfoldable pub readPage : PageRing → Page
 readPage g = getD (g .pages) (g .read) emptyPage

@@ -18,6 +18,7 @@ shifted c = bitXor (c / 2) (c % 2 * 0xA001)
 abbrev pub fed : ℕ → Bool → ℕ
 fed c b = shifted (bitXor c (bit b))
 
+-- bits fed one after the other
 abbrev pub fedAll : ℕ → List Bool → ℕ
 fedAll c [] = c
 fedAll c (b ∷ bs) = fedAll (fed c b) bs

@@ -15,6 +15,7 @@ pub record Rule : Type 0 where
   pub fits : Bool
   pub accept : Bool
 
+-- a rule written out
 abbrev pub rule : Bool → Bool → Rule
 rule fits accept = record { fits = fits; accept = accept }
 
@@ -33,5 +34,6 @@ abbrev pub firstFit : List Rule → Bool
 firstFit [] = false
 firstFit (r ∷ rs) = cond (r .fits) (r .accept) (firstFit rs)
 
+-- what the filter says of a frame
 abbrev pub accepts : Filters → ℕ → ℕ → Bool
 accepts f source destination = firstFit (rules f source destination)

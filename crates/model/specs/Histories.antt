@@ -13,6 +13,7 @@ abbrev pub afterAll : List Operation → Table → Table
 afterAll [] t = t
 afterAll (o ∷ os) t = afterAll os (then o t)
 
+-- what each of them gives
 abbrev pub outcomes : List Operation → Table → List Outcome
 outcomes [] t = []
 outcomes (o ∷ os) t = outcome o t ∷ outcomes os (then o t)
@@ -27,6 +28,7 @@ abbrev pub total : (Operation → Table → ℕ) → List Operation → Table �
 total f [] t = 0
 total f (o ∷ os) t = f o t + total f os (then o t)
 
+-- the level that an outcome tells of
 abbrev pub levelsHeard : Outcome → List Bool
 levelsHeard (refused n) = []
 levelsHeard wrote = []
@@ -45,6 +47,7 @@ Written (read k r n place buffer) = Unit {0}
 Written (bitTime pulled) = Unit {0}
 Written (malformed k fault) = Unit {0}
 
+-- the same of a list of operations
 abbrev pub AllWritten : List Operation → Type 0
 AllWritten [] = Unit {0}
 AllWritten (o ∷ os) = Written o × AllWritten os

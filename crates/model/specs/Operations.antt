@@ -14,6 +14,7 @@ pub data WireFault : Type 0 where
   noShape : WireFault
   otherDevice : WireFault
 
+-- the refusal's number
 abbrev pub faultNumber : WireFault → ℕ
 faultNumber noShape = 7
 faultNumber otherDevice = 8
@@ -48,6 +49,7 @@ firstOf (r ∷ rs) = cond (r .0) (r .1) (firstOf rs)
 abbrev pub refusesController : ℕ → Table → List (Bool × ℕ)
 refusesController k t = (not (sized t), 1) ∷ (leb (length t) k, 2) ∷ []
 
+-- the most bytes of a burst
 abbrev pub maxBurst : ℕ
 maxBurst = 256
 
@@ -73,17 +75,20 @@ refusesRead r n place buffer =
     ∷ (ltb buffer (place + n), 10)
     ∷ []
 
+-- what an operation is refused with
 unfoldable pub refusal : Operation → Table → ℕ
 refusal (write k r vs) t = firstOf (refusesController k t ++ refusesWrite r vs (at t k))
 refusal (read k r n place buffer) t = firstOf (refusesController k t ++ refusesRead r n place buffer)
 refusal (bitTime pulled) t = cond (sized t) 0 1
 refusal (malformed k fault) t = firstOf (refusesController k t ++ ((true, faultNumber fault) ∷ []))
 
+-- an operation that is not refused
 unfoldable pub accepted : Operation → Table → Bool
 accepted o t = eqb (refusal o t) 0
 
 -- ---- what is done
 
+-- the table after an operation that is not refused
 unfoldable pub done : Operation → Table → Table
 done (write k r vs) t = set t k (writesAll (registerOf r) vs (at t k))
 done (read k r n place buffer) t = set t k (leavesAll (registerOf r) n (at t k))
@@ -94,18 +99,21 @@ done (malformed k fault) t = t
 unfoldable pub then : Operation → Table → Table
 then o t = cond (accepted o t) (done o t) t
 
+-- what an operation gives
 pub data Outcome : Type 0 where
   refused : ℕ → Outcome
   wrote : Outcome
   gave : List ℕ → Outcome
   answered : Bool → List Marks → Outcome
 
+-- what it gives if it is not refused
 abbrev pub result : Operation → Table → Outcome
 result (write k r vs) t = wrote
 result (read k r n place buffer) t = gave (givesAll (registerOf r) n (at t k))
 result (bitTime pulled) t = answered (lineLevel pulled t) (map (marks (lineLevel pulled t)) t)
 result (malformed k fault) t = refused (faultNumber fault)
 
+-- what it gives
 abbrev pub outcome : Operation → Table → Outcome
 outcome o t = cond (accepted o t) (result o t) (refused (refusal o t))
 
@@ -122,11 +130,13 @@ placeOf (read k r n place buffer) = place
 placeOf (bitTime pulled) = 0
 placeOf (malformed k fault) = 0
 
+-- the bytes for the caller's buffer
 abbrev pub bytesGiven : Outcome → List ℕ
 bytesGiven (refused n) = []
 bytesGiven wrote = []
 bytesGiven (gave xs) = xs
 bytesGiven (answered level ms) = []
 
+-- the caller's buffer after an operation
 unfoldable pub bufferAfter : Operation → Table → List ℕ → List ℕ
 bufferAfter o t buffer = putInto buffer (placeOf o) (bytesGiven (outcome o t))

@@ -69,6 +69,7 @@ pub data Heard : Type 0 where
   broken : List ℕ → ℕ → Heard
   right : List ℕ → ℕ → Heard
 
+-- levels read from a step on
 abbrev pub heardOn : List Bool → Step → Heard
 heardOn [] (goes r) = unfinished r
 heardOn [] (endsBroken xs) = broken xs 0
@@ -77,5 +78,6 @@ heardOn (level ∷ more) (goes r) = heardOn more (reads level r)
 heardOn (level ∷ more) (endsBroken xs) = broken xs (length (level ∷ more))
 heardOn (level ∷ more) (endsRight xs) = right xs (length (level ∷ more))
 
+-- levels read from where a receiver stands
 abbrev pub heard : Reading → List Bool → Heard
 heard r levels = heardOn levels (goes r)

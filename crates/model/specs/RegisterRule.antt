@@ -14,15 +14,19 @@ use Rattle.model.specs.Controller.{pageSize, Settings, TransmitState, free, wa
 
 -- ---- one part of a record changed
 
+-- a controller with other settings
 abbrev pub withSettings : Settings → Controller → Controller
 withSettings s c = record { settings = s; tx = c .tx; rx = c .rx }
 
+-- with another transmitter
 abbrev pub withTx : Transmitter → Controller → Controller
 withTx t c = record { settings = c .settings; tx = t; rx = c .rx }
 
+-- with another receiver
 abbrev pub withRx : Receiver → Controller → Controller
 withRx r c = record { settings = c .settings; tx = c .tx; rx = r }
 
+-- settings with other filters
 abbrev pub withFilters : Filters → Settings → Settings
 withFilters f s = record {
   setting = s .setting;
@@ -110,11 +114,13 @@ aborts b t = record {
   txError = t .txError;
 }
 
+-- a byte written to TX_CTRL
 unfoldable pub txControl : ℕ → Transmitter → Transmitter
 txControl v t = aborts (has v 4) (clearsTx (has v 2) (has v 3) (starts (has v 1) (zeroesPointer (has v 0) t)))
 
 -- ---- the receiver
 
+-- the read page is ready
 abbrev pub isReady : PageRing → Bool
 isReady g = not (eqb (g .ready) 0)
 
@@ -167,11 +173,13 @@ resets b r = record {
   ones = cond b 0 (r .ones);
 }
 
+-- a byte written to RX_CTRL
 unfoldable pub rxControl : ℕ → Receiver → Receiver
 rxControl v r = resets (has v 4) (clearsRx (has v 2) (has v 3) (switches (has v 1) (zeroesAddress (has v 0) r)))
 
 -- ---- writing
 
+-- a stored register takes a value
 unfoldable pub keeps : Stored → ℕ → Settings → Settings
 keeps setting v s = record { setting = v; idleWait = s .idleWait; txWait = s .txWait; filters = s .filters; dividers = s .dividers; mask = s .mask }
 keeps idleWaitLen v s = record { setting = s .setting; idleWait = v; txWait = s .txWait; filters = s .filters; dividers = s .dividers; mask = s .mask }
@@ -231,6 +239,7 @@ intFlags c =
 unfoldable pub interrupts : Controller → Bool
 interrupts c = not (eqb (bitAnd (intFlags c) (c .settings .mask)) 0)
 
+-- the value of a stored register
 unfoldable pub kept : Stored → Settings → ℕ
 kept setting s = s .setting
 kept idleWaitLen s = s .idleWait
@@ -265,11 +274,12 @@ leaves txCtrl c = c
 leaves rxAddr c = c
 leaves rxPageFlag c = c
 
--- the bytes of n register reads, and what they leave behind
+-- the bytes of n register reads
 unfoldable pub givesAll : Register → ℕ → Controller → List ℕ
 givesAll r zero c = []
 givesAll r (suc n) c = gives r c ∷ givesAll r n (leaves r c)
 
+-- what n register reads leave behind
 unfoldable pub leavesAll : Register → ℕ → Controller → Controller
 leavesAll r zero c = c
 leavesAll r (suc n) c = leavesAll r n (leaves r c)

@@ -22,6 +22,7 @@ pub data Stored : Type 0 where
   divider : ℕ → Stored
   intMask : Stored
 
+-- all registers
 pub data Register : Type 0 where
   version : Register
   stored : Stored → Register
@@ -33,26 +34,31 @@ pub data Register : Type 0 where
   rxAddr : Register
   rxPageFlag : Register
 
+-- what a host may do with a register
 pub data Access : Type 0 where
   readOnly : Access
   writeOnly : Access
   readWrite : Access
 
+-- a host may read it
 abbrev pub readable : Access → Bool
 readable readOnly = true
 readable writeOnly = false
 readable readWrite = true
 
+-- a host may write it
 abbrev pub writable : Access → Bool
 writable readOnly = false
 writable writeOnly = true
 writable readWrite = true
 
+-- a register with its name and its access
 pub record Entry : Type 0 where
   pub name : List ℕ
   pub register : Register
   pub access : Access
 
+-- an entry written out
 abbrev pub entry : List ℕ → Register → Access → Entry
 entry name register access = record { name = name; register = register; access = access }
 
@@ -80,6 +86,7 @@ registers =
     ∷ entry (codes "FILTER2") (stored filter2) readWrite
     ∷ []
 
+-- the highest register number
 abbrev pub lastRegister : ℕ
 lastRegister = 0x12
 
@@ -100,9 +107,11 @@ txCtrlNumber = 0x0E
 abbrev pub entryOf : ℕ → Entry
 entryOf r = getD registers r (entry [] version readOnly)
 
+-- the register of a number
 abbrev pub registerOf : ℕ → Register
 registerOf r = entryOf r .register
 
+-- what may be done with it
 abbrev pub accessOf : ℕ → Access
 accessOf r = entryOf r .access
 
@@ -111,6 +120,7 @@ abbrev pub numberIn : List Entry → ℕ → List ℕ → Option ℕ
 numberIn [] n name = None
 numberIn (e ∷ es) n name = cond (sameBytes name (e .name)) (Some n) (numberIn es (n + 1) name)
 
+-- the number of a name
 abbrev pub numberOf : List ℕ → Option ℕ
 numberOf name = numberIn registers 0 name
 
@@ -120,6 +130,7 @@ numberOf name = numberIn registers 0 name
 abbrev pub settingBits : ℕ
 settingBits = 0x39
 
+-- which values a stored register takes
 abbrev pub admitsStored : Stored → ℕ → Bool
 admitsStored setting v = eqb (bitAnd v settingBits) v
 admitsStored idleWaitLen v = leb 10 v

@@ -22,17 +22,20 @@ spi k (x ∷ xs) buffer = cond (has x 7) (write k (x % 128) xs) (read k (x % 128
 abbrev pub isByte : ℕ → Bool
 isByte x = ltb x 256
 
+-- a start condition
 abbrev pub isStart : ℕ → Bool
 isStart x = eqb x 256
 
+-- a stop condition
 abbrev pub isStop : ℕ → Bool
 isStop x = eqb x 257
 
--- the bytes that a list begins with, and what follows them
+-- the bytes that a list begins with
 abbrev pub leading : List ℕ → List ℕ
 leading [] = []
 leading (x ∷ xs) = cond (isByte x) (x ∷ leading xs) []
 
+-- what follows the bytes that a list begins with
 abbrev pub behind : List ℕ → List ℕ
 behind [] = []
 behind (x ∷ xs) = cond (isByte x) (behind xs) (x ∷ xs)
@@ -47,6 +50,7 @@ afterRestart xs =
     cond (isStart (getD xs 0 0)) (drop 1 xs)
     (cond (isStop (getD xs 0 0) && isStart (getD xs 1 0)) (drop 2 xs) [])
 
+-- what a list of numbers is
 pub data Shape : Type 0 where
   neither : Shape
   -- start, device, register, data, stop
@@ -54,6 +58,7 @@ pub data Shape : Type 0 where
   -- start, device, register, start or stop and start, device again, a byte for each wanted, stop
   reading : (device register again wanted : ℕ) → Shape
 
+-- which of these a list is
 abbrev pub shape : List ℕ → Shape
 shape ls =
     let head = leading (drop 1 ls) in
@@ -64,10 +69,11 @@ shape ls =
     (cond (eqb (length head) 2 && leb 1 (length tail) && justStop (behind (afterRestart rest)))
     (reading (getD head 0 0) (getD head 1 0) (getD tail 0 0) (length tail - 1)) neither))
 
--- controller k has pins k mod 4; its device byte says the direction in bit 0
+-- controller k has pins k mod 4; its device byte says the direction in bit 0: this one for writing
 abbrev pub deviceForWrite : ℕ → ℕ
 deviceForWrite k = 0xC0 + 2 * (k % 4)
 
+-- the same for reading
 abbrev pub deviceForRead : ℕ → ℕ
 deviceForRead k = 0xC1 + 2 * (k % 4)
 
@@ -79,5 +85,6 @@ framedBy k buffer (writing device r bytes) =
 framedBy k buffer (reading device r again wanted) =
     cond (eqb device (deviceForWrite k) && eqb again (deviceForRead k)) (read k (r % 128) wanted 0 buffer) (malformed k otherDevice)
 
+-- a transfer over I2C; the reply goes to a buffer from place 0
 unfoldable pub i2c : (controller : ℕ) (sent : List ℕ) (buffer : ℕ) → Operation
 i2c k sent buffer = framedBy k buffer (shape sent)

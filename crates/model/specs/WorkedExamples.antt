@@ -17,6 +17,7 @@ use Rattle.model.specs.Wires.{spi, i2c}
 use Rattle.model.specs.Calls.{newTable}
 use Rattle.model.specs.Histories.{afterAll}
 
+-- the kinds of entries
 pub data Example : Type 0 where
   crcIs : (message : List ℕ) (crc low high : ℕ) → Example
   goesBefore : (source itsReversed other otherReversed : ℕ) → Example
@@ -53,6 +54,7 @@ abbrev pub quiet : ℕ → List Operation
 quiet zero = []
 quiet (suc n) = bitTime false ∷ quiet n
 
+-- marks that say at most that a controller began or drew back
 abbrev pub marked : Bool → Bool → Marks
 marked began drewBack = record { began = began; drewBack = drewBack; sent = false; gaveUp = false; madeReady = false }
 
@@ -60,6 +62,7 @@ marked began drewBack = record { began = began; drewBack = drewBack; sent = fals
 abbrev pub oneWaits : List Operation
 oneWaits = started 0 (0x0C ∷ 0x0D ∷ 0x01 ∷ 0xCD ∷ []) ++ quiet 30
 
+-- the table
 abbrev pub workedExamples : List Example
 workedExamples =
     crcIs (0x0C ∷ 0x0D ∷ 0x01 ∷ 0xCD ∷ []) 0xB252 0x52 0xB2
@@ -84,6 +87,7 @@ workedExamples =
     ∷ transferIs (i2c 1 (256 ∷ 0xC2 ∷ 0x04 ∷ 256 ∷ 0xC3 ∷ 0 ∷ 257 ∷ []) 1) (read 1 0x04 1 0 1)
     ∷ []
 
+-- each entry of a list holds
 abbrev pub Every : (Example → Type 0) → List Example → Type 0
 Every P [] = Unit {0}
 Every P (e ∷ es) = P e × Every P es
