@@ -15,15 +15,6 @@ pub(crate) fn hex(heap: Global, bytes: &[u8]) -> Result<String, AllocError> {
     Ok(text)
 }
 
-/// Levels as digits.
-pub(crate) fn digits(heap: Global, levels: &[bool]) -> Result<String, AllocError> {
-    let mut text = String::new(heap);
-    for level in levels {
-        text.push(if *level { '1' } else { '0' })?;
-    }
-    Ok(text)
-}
-
 /// The eight bits of a byte as they are sent, lowest first.
 pub(crate) fn sent_bits(heap: Global, byte: u8) -> Result<String, AllocError> {
     let mut text = String::new(heap);

@@ -13,6 +13,7 @@ abbrev pub Kept : ℕ → ℕ → Bool → Type 0
 Kept a b true = (reversed a < reversed b) × Keeps-line a b
 Kept a b false = (reversed b < reversed a) ⊎ (a ≡ b)
 
+-- who keeps the line, by the answer
 abbrev pub Decided : ℕ → ℕ → Arbitration → Type 0
 Decided a b First = (reversed a < reversed b) × Keeps-line a b
 Decided a b Second = (reversed b < reversed a) × Keeps-line b a

@@ -11,6 +11,7 @@ use Rattle.frame.specs.declared.reader.Phase.the-variants.{Hunting, Between, I
 abbrev pub goesOn : ℕ → ℕ → Bool
 goesOn n lengthByte = ltb n 3 || leb lengthByte maxData && ltb n (lengthByte + 5)
 
+-- what a reader keeps true: there is room while a frame is open, and at most eight bits of a byte are to come
 abbrev pub sound : Phase → ℕ → List ℕ → Bool
 sound Hunting n bytes = leb n 258
 sound Between n bytes = goesOn n (lengthByte bytes)

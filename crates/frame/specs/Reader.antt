@@ -11,15 +11,17 @@ use Rattle.frame.specs.declared.reader.FrameReader.{FrameReader}
 use Rattle.frame.specs.declared.reader.hear.Progress.{Progress}
 use Rattle.frame.specs.declared.reader.hear.Progress.the-variants.{Unfinished, Right, Broken}
 
--- where it stands, with the bytes that it has read
+-- where it stands in a frame of which it has read these bytes
 abbrev pub standing : Phase → List ℕ → Reading
 standing Hunting xs = hunting
 standing Between xs = between xs
 standing (Inside left value) xs = inside xs left (drop left (bits 8 value))
 
+-- the bytes that it has read
 abbrev pub bytesOf : FrameReader → List ℕ
 bytesOf r = take (r .count) (r .bytes)
 
+-- all of it, as the rules have it
 abbrev pub reading : FrameReader → Reading
 reading r = standing (r .phase) (bytesOf r)
 
@@ -35,6 +37,7 @@ stepped Unfinished r = goes (reading r)
 stepped Right r = endsRight (bytesOf r)
 stepped Broken r = endsBroken (bytesOf r)
 
+-- the frame has ended
 abbrev pub ended : Progress → Bool
 ended Unfinished = false
 ended Right = true

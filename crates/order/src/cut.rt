@@ -11,7 +11,7 @@ use std::alloc::Global;
 pub const SIZES: usize = 23;
 
 /// The data bytes of an order: four for the marker and four for each size.
-pub const DATA: u8 = 96;
+const DATA: u8 = 96;
 
 /// One size of a marker: the plies that are laid for it, and the pieces that are cut from each.
 #[derive(Clone, Copy)]

@@ -32,8 +32,7 @@ pub fn deliver(heap: Global, message: &[u8]) -> Result<Delivery, MessageError>
     ensures { λ r. ⌜ Cases r (Delivered (now (message .entry))) (Fault (now (message .entry))) ⌝ }
 {
     let levels = frame_levels(heap, message)?;
-    let delivery = hear(heap, levels)?;
-    Ok(delivery)
+    Ok(hear(heap, levels)?)
 }
 
 /// The levels of a message's frame with a burst in them.
@@ -45,7 +44,7 @@ fn pulled_levels(heap: Global, message: &[u8], burst: &Burst) -> Result<Vec<bool
     Ok(pulled)
 }
 
-/// Sends a message over a line that a burst pulls: it does not read as another message.
+/// Sends a message over a line that a burst pulls: it reads as the rules say, and never as another message.
 pub fn deliver_disturbed(
     heap: Global,
     message: &[u8],

@@ -15,6 +15,7 @@ returns c =
     let read = subst (λ k. Read-as (length k) (heard afterIdle k) x) (c .deref .ensures .value) (says .reads) in
     record {
       same = refl;
+      read-so = read;
       reads-right = λ m ok is. right-reads m ls x read (ap (heard afterIdle) is ∙ says .codec .sent-is-read m ok .at-last);
       never-other = λ m ok start ps burst is. never-reads m ls x read
           (λ bytes left e. says .disturbed m ok start ps burst bytes left (ap (heard afterIdle) (sym is) ∙ e));
