@@ -12,7 +12,7 @@ use Rattle.model.specs.Crc.{shifted}
 use Rattle.model.specs.Frames.{lengthByte, Message, frameLevels}
 use Rattle.model.specs.Registers.{txCtrlNumber}
 use Rattle.model.specs.Controller.{Table, new, isFree, readPage}
-use Rattle.model.specs.RegisterRule.{takesStart, startsTooLong, aborts, addressed, clearsRx, clearsTx, gives, givesAll, keeps, leaves, leavesAll, starts, stores, txControl, writes, writesAll, zeroesPointer, idle}
+use Rattle.model.specs.RegisterRule.{startsTooLong, givesAll, leavesAll, txControl, writesAll, idle}
 use Rattle.model.specs.BitTime.{begins, begun, counts, drawsBack, drives, endBroken, endRight, filled, finishes, follows, givesUp, inLast, inSource, lineLevel, listens, marks, nextLevel, noticed, pageOf, ticked, timesOut, transmits, wanted}
 use Rattle.model.specs.Operations.{write, at, sized, refusal, accepted, done, then}
 use Rattle.model.specs.Reading.{crcRight}
@@ -27,7 +27,7 @@ levels-of l n e xs m is = length-frame xs m ∙ ap (λ k. 10 * (k + 5)) is ∙ e
 
 -- a START to a controller without a waiting page is refused by its length byte alone
 start : (l n : ℕ) → cond (ltb 253 l) 6 0 ≡ n → Holds (startGets l n)
-unfolding refusal startsTooLong takesStart has
+unfolding refusal has
 start l n e t k size in-table none is =
     let tx = at t k .tx in
     let bad-length : Bool → ℕ = λ b. cond (not (not b)) 6 0 in
@@ -43,7 +43,7 @@ start l n e t k size in-table none is =
 
 -- the histories and the transfers, computed
 computed : Every Holds (drop 8 workedExamples)
-unfolding aborts accepted addressed begins begun clearsRx clearsTx counts crcRight done drawsBack drives endBroken endRight filled finishes follows gives givesAll givesUp has i2c idle inLast inSource keeps leaves leavesAll lineLevel listens marks new newTable nextLevel noticed number pageOf readPage refusal shifted spi starts startsTooLong stores takesStart then ticked timesOut transmits txControl wanted writes writesAll zeroesPointer
+unfolding accepted begins begun counts crcRight done drawsBack drives endBroken endRight filled finishes follows givesAll givesUp has i2c idle inLast inSource leavesAll lineLevel listens marks new newTable nextLevel noticed number pageOf readPage refusal shifted spi then ticked timesOut transmits txControl wanted writesAll
 computed = (refl, (refl, (refl, (refl, (refl, (refl, (refl, tt)))))))
 
 pub all-hold : Every Holds workedExamples

@@ -73,35 +73,42 @@ Table = List Controller
 abbrev pub emptyPage : Page
 emptyPage = record { bytes = replicate pageSize 0; flag = 0 }
 
--- as it is when the table is made
-unfoldable pub new : Controller
-new = record {
-  settings = record {
-    setting = 0x10;
-    idleWait = 10;
-    txWait = 20;
-    filters = record { filter = 0xFF; filter1 = 0xFF; filter2 = 0xFF };
-    dividers = 0x5A ∷ 0x01 ∷ 0x5A ∷ 0x01 ∷ [];
-    mask = 0;
-  };
-  tx = record {
-    written = replicate pageSize 0;
-    other = replicate pageSize 0;
-    pointer = 0;
-    state = free;
-    conflicts = 0;
-    txCd = false;
-    txError = false;
-  };
-  rx = record {
-    ring = record { pages = replicate rxPages emptyPage; read = 0; ready = 0 };
-    address = 0;
-    rxLost = false;
-    rxError = false;
-    reading = hunting;
-    ones = 0;
-  };
+-- ---- as it is when the table is made
+
+-- the values that the stored registers have then
+abbrev pub newSettings : Settings
+newSettings = record {
+  setting = 0x10;
+  idleWait = 10;
+  txWait = 20;
+  filters = record { filter = 0xFF; filter1 = 0xFF; filter2 = 0xFF };
+  dividers = 0x5A ∷ 0x01 ∷ 0x5A ∷ 0x01 ∷ [];
+  mask = 0;
 }
+
+-- no page waits
+abbrev pub newTransmitter : Transmitter
+newTransmitter = record {
+  written = replicate pageSize 0;
+  other = replicate pageSize 0;
+  pointer = 0;
+  state = free;
+  conflicts = 0;
+  txCd = false;
+  txError = false;
+}
+
+-- no page is ready, and page 0 is read and filled first
+abbrev pub newRing : PageRing
+newRing = record { pages = replicate rxPages emptyPage; read = 0; ready = 0 }
+
+-- the receiver hunts
+abbrev pub newReceiver : Receiver
+newReceiver = record { ring = newRing; address = 0; rxLost = false; rxError = false; reading = hunting; ones = 0 }
+
+-- all of it
+unfoldable pub new : Controller
+new = record { settings = newSettings; tx = newTransmitter; rx = newReceiver }
 
 -- ---- looking at a controller
 

@@ -38,7 +38,7 @@ withFilters f s = record {
 }
 
 -- RX_ADDR set
-unfoldable pub addressed : ℕ → Receiver → Receiver
+abbrev pub addressed : ℕ → Receiver → Receiver
 addressed a r = record {
   ring = r .ring;
   address = a;
@@ -48,10 +48,14 @@ addressed a r = record {
   ones = r .ones;
 }
 
+-- RX_ADDR steps on from 255 to 0
+abbrev pub stepped : Receiver → Receiver
+stepped r = addressed ((r .address + 1) % pageSize) r
+
 -- ---- the transmitter
 
 -- TX stores at the write pointer, which steps on from 255 to 0
-unfoldable pub stores : ℕ → Transmitter → Transmitter
+abbrev pub stores : ℕ → Transmitter → Transmitter
 stores v t = record {
   written = set (t .written) (t .pointer) v;
   other = t .other;
@@ -63,7 +67,7 @@ stores v t = record {
 }
 
 -- TX_CTRL, bit by bit from bit 0 up. Bit 0 zeroes the write pointer.
-unfoldable pub zeroesPointer : Bool → Transmitter → Transmitter
+abbrev pub zeroesPointer : Bool → Transmitter → Transmitter
 zeroesPointer b t = record {
   written = t .written;
   other = t .other;
@@ -75,11 +79,11 @@ zeroesPointer b t = record {
 }
 
 -- bit 1 is START, which is taken if no page waits
-unfoldable pub takesStart : Bool → Transmitter → Bool
+abbrev pub takesStart : Bool → Transmitter → Bool
 takesStart b t = b && isFree (t .state)
 
 -- a START that is taken makes the written page wait; the other is written next, from place 0
-unfoldable pub starts : Bool → Transmitter → Transmitter
+abbrev pub starts : Bool → Transmitter → Transmitter
 starts b t = record {
   written = cond (takesStart b t) (t .other) (t .written);
   other = cond (takesStart b t) (t .written) (t .other);
@@ -91,7 +95,7 @@ starts b t = record {
 }
 
 -- bits 2 and 3 clear TX_CD and TX_ERROR
-unfoldable pub clearsTx : Bool → Bool → Transmitter → Transmitter
+abbrev pub clearsTx : Bool → Bool → Transmitter → Transmitter
 clearsTx cd error t = record {
   written = t .written;
   other = t .other;
@@ -103,7 +107,7 @@ clearsTx cd error t = record {
 }
 
 -- bit 4 aborts a waiting page, sending or not: it is sent no further and waits no more
-unfoldable pub aborts : Bool → Transmitter → Transmitter
+abbrev pub aborts : Bool → Transmitter → Transmitter
 aborts b t = record {
   written = t .written;
   other = t .other;
@@ -125,7 +129,7 @@ abbrev pub isReady : PageRing → Bool
 isReady g = not (eqb (g .ready) 0)
 
 -- a read page that is ready is unmarked, and the next is read
-unfoldable pub switched : Bool → PageRing → PageRing
+abbrev pub switched : Bool → PageRing → PageRing
 switched b g = record {
   pages = g .pages;
   read = cond (b && isReady g) (nextPage (g .read)) (g .read);
@@ -133,15 +137,15 @@ switched b g = record {
 }
 
 -- all marks go, and the read page and the fill page are page 0; what the pages hold stays
-unfoldable pub wiped : Bool → PageRing → PageRing
+abbrev pub wiped : Bool → PageRing → PageRing
 wiped b g = record { pages = g .pages; read = cond b 0 (g .read); ready = cond b 0 (g .ready) }
 
 -- RX_CTRL, bit by bit from bit 0 up. Bit 0 zeroes RX_ADDR.
-unfoldable pub zeroesAddress : Bool → Receiver → Receiver
+abbrev pub zeroesAddress : Bool → Receiver → Receiver
 zeroesAddress b r = addressed (cond b 0 (r .address)) r
 
 -- bit 1 zeroes RX_ADDR too, and switches the page away
-unfoldable pub switches : Bool → Receiver → Receiver
+abbrev pub switches : Bool → Receiver → Receiver
 switches b r = record {
   ring = switched b (r .ring);
   address = cond b 0 (r .address);
@@ -152,7 +156,7 @@ switches b r = record {
 }
 
 -- bits 2 and 3 clear RX_LOST and RX_ERROR
-unfoldable pub clearsRx : Bool → Bool → Receiver → Receiver
+abbrev pub clearsRx : Bool → Bool → Receiver → Receiver
 clearsRx lost error r = record {
   ring = r .ring;
   address = r .address;
@@ -163,7 +167,7 @@ clearsRx lost error r = record {
 }
 
 -- bit 4 resets the receiver
-unfoldable pub resets : Bool → Receiver → Receiver
+abbrev pub resets : Bool → Receiver → Receiver
 resets b r = record {
   ring = wiped b (r .ring);
   address = cond b 0 (r .address);
@@ -180,7 +184,7 @@ rxControl v r = resets (has v 4) (clearsRx (has v 2) (has v 3) (switches (has v 
 -- ---- writing
 
 -- a stored register takes a value
-unfoldable pub keeps : Stored → ℕ → Settings → Settings
+abbrev pub keeps : Stored → ℕ → Settings → Settings
 keeps setting v s = record { setting = v; idleWait = s .idleWait; txWait = s .txWait; filters = s .filters; dividers = s .dividers; mask = s .mask }
 keeps idleWaitLen v s = record { setting = s .setting; idleWait = v; txWait = s .txWait; filters = s .filters; dividers = s .dividers; mask = s .mask }
 keeps txWaitLen v s = record { setting = s .setting; idleWait = s .idleWait; txWait = v; filters = s .filters; dividers = s .dividers; mask = s .mask }
@@ -191,7 +195,7 @@ keeps (divider k) v s = record { setting = s .setting; idleWait = s .idleWait; t
 keeps intMask v s = record { setting = s .setting; idleWait = s .idleWait; txWait = s .txWait; filters = s .filters; dividers = s .dividers; mask = v }
 
 -- one byte written to a register; those that are read only are never written
-unfoldable pub writes : Register → ℕ → Controller → Controller
+abbrev pub writes : Register → ℕ → Controller → Controller
 writes version v c = c
 writes (stored s) v c = withSettings (keeps s v (c .settings)) c
 writes intFlag v c = c
@@ -208,7 +212,7 @@ writesAll r [] c = c
 writesAll r (v ∷ vs) c = writesAll r vs (writes r v c)
 
 -- a START that would be taken with a length byte that no frame has
-unfoldable pub startsTooLong : ℕ → Transmitter → Bool
+abbrev pub startsTooLong : ℕ → Transmitter → Bool
 startsTooLong v t = takesStart (has v 1) t && ltb maxData (lengthByte (t .written))
 
 -- which values a register admits
@@ -230,17 +234,17 @@ unfoldable pub idle : Controller → Bool
 idle c = leb (c .settings .idleWait) (c .rx .ones)
 
 -- INT_FLAG, bit 0 first
-unfoldable pub intFlags : Controller → ℕ
+abbrev pub intFlags : Controller → ℕ
 intFlags c =
     bit (idle c) + 2 * bit (isReady (c .rx .ring)) + 4 * bit (c .rx .rxLost) + 8 * bit (c .rx .rxError)
     + 16 * bit (isFree (c .tx .state)) + 32 * bit (c .tx .txCd) + 64 * bit (c .tx .txError)
 
 -- INT_N is low when INT_FLAG and INT_MASK share a 1
-unfoldable pub interrupts : Controller → Bool
+abbrev pub interrupts : Controller → Bool
 interrupts c = not (eqb (bitAnd (intFlags c) (c .settings .mask)) 0)
 
 -- the value of a stored register
-unfoldable pub kept : Stored → Settings → ℕ
+abbrev pub kept : Stored → Settings → ℕ
 kept setting s = s .setting
 kept idleWaitLen s = s .idleWait
 kept txWaitLen s = s .txWait
@@ -251,7 +255,7 @@ kept (divider k) s = getD (s .dividers) k 0
 kept intMask s = s .mask
 
 -- the byte that a register gives; those that are write only are never read
-unfoldable pub gives : Register → Controller → ℕ
+abbrev pub gives : Register → Controller → ℕ
 gives version c = 0x07
 gives (stored s) c = kept s (c .settings)
 gives intFlag c = intFlags c
@@ -263,11 +267,11 @@ gives rxAddr c = c .rx .address
 gives rxPageFlag c = readPage (c .rx .ring) .flag
 
 -- what reading leaves behind: RX steps RX_ADDR on from 255 to 0, and no other register changes anything
-unfoldable pub leaves : Register → Controller → Controller
+abbrev pub leaves : Register → Controller → Controller
 leaves version c = c
 leaves (stored s) c = c
 leaves intFlag c = c
-leaves rx c = withRx (addressed ((c .rx .address + 1) % pageSize) (c .rx)) c
+leaves rx c = withRx (stepped (c .rx)) c
 leaves tx c = c
 leaves rxCtrl c = c
 leaves txCtrl c = c

@@ -68,6 +68,25 @@ impl FrameReader {
         }
     }
 
+    /// A reader that hunts: no frame is open, and every level is passed over.
+    pub fn hunting() -> FrameReader
+        ensures { λ r. ⌜ reading r ≡ hunting ⌝ }
+    {
+        FrameReader {
+            bytes: [0; LONGEST],
+            count: 0,
+            phase: Phase::Hunting,
+        }
+    }
+
+    /// Leaves the frame that is being read, if any, and hunts.
+    pub fn hunt(&mut self)
+        ensures { λ _. ⌜ reading (now (self .exit)) ≡ hunting ⌝ }
+    {
+        self.count = 0;
+        self.phase = Phase::Hunting;
+    }
+
     /// The bytes read so far; of a frame that has ended, all of them.
     pub fn bytes(&self) -> &[u8]
         ensures { λ r. ⌜ now r ≡ bytesOf (now (self .entry)) ⌝ }

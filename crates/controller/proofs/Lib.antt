@@ -1,0 +1,2 @@
+pub mod TxPages
+pub mod Control

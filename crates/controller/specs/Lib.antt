@@ -1,0 +1,7 @@
+pub mod Refusal
+pub mod Register
+pub mod Transmitter
+pub mod Ring
+pub mod Receiver
+pub mod Settings
+pub mod View

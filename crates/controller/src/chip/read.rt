@@ -1,0 +1,72 @@
+ghost use mathlib.Core.Path.{_≡_};
+ghost use Prim.Native.Nat.{_*_, _≤_};
+ghost use Rattle.controller.specs.Register.{place};
+ghost use Rattle.controller.specs.View.{node};
+ghost use Rattle.model.specs.Bits.{bit};
+ghost use Rattle.model.specs.Registers.{registerOf};
+ghost use Rattle.model.specs.RegisterRule.{idle, gives, leaves, intFlags, interrupts};
+use crate::chip::Controller;
+use crate::register::Register;
+
+/// What VERSION reads as.
+const VERSION: u8 = 0x07;
+
+/// A flag at its place in INT_FLAG.
+fn weigh(flag: bool, weight: u8) -> u8
+    ensures is { λ r. ⌜ r ≡ weight * bit flag ⌝ }
+    ensures most { λ r. ⌜ r ≤ weight ⌝ }
+{
+    if flag { weight } else { 0 }
+}
+
+impl Controller {
+    fn is_idle(&self) -> bool
+        ensures { λ r. ⌜ r ≡ idle (node (now (self .entry))) ⌝ }
+    {
+        self.rx.is_idle(self.settings.idle_wait_len)
+    }
+
+    /// INT_FLAG
+    fn int_flag(&self) -> u8
+        ensures { λ r. ⌜ r ≡ intFlags (node (now (self .entry))) ⌝ }
+    {
+        weigh(self.is_idle(), 1) + weigh(self.rx.is_ready(), 2) + weigh(self.rx.rx_lost, 4)
+            + weigh(self.rx.rx_error, 8)
+            + weigh(self.tx.is_free(), 16)
+            + weigh(self.tx.tx_cd, 32)
+            + weigh(self.tx.tx_error, 64)
+    }
+
+    /// INT_N is low: INT_FLAG and INT_MASK share a 1.
+    pub fn int_n_low(&self) -> bool
+        ensures { λ r. ⌜ r ≡ interrupts (node (now (self .entry))) ⌝ }
+    {
+        self.int_flag() & self.settings.int_mask != 0
+    }
+
+    /// The byte that a register gives; reading RX steps RX_ADDR on.
+    fn read_byte(&mut self, register: Register) -> u8
+        ensures gives { λ r. ⌜ r ≡ gives (registerOf (place register)) (node (now (self .entry))) ⌝ }
+        ensures leaves { λ _. ⌜ node (now (self .exit)) ≡ leaves (registerOf (place register)) (node (now (self .entry))) ⌝ }
+    {
+        match register {
+            Register::Version => VERSION,
+            Register::Setting => self.settings.setting,
+            Register::IdleWaitLen => self.settings.idle_wait_len,
+            Register::TxWaitLen => self.settings.tx_wait_len,
+            Register::Filter => self.settings.filters.filter,
+            Register::Filter1 => self.settings.filters.filter1,
+            Register::Filter2 => self.settings.filters.filter2,
+            Register::DivLsL => self.settings.div_ls_l,
+            Register::DivLsH => self.settings.div_ls_h,
+            Register::DivHsL => self.settings.div_hs_l,
+            Register::DivHsH => self.settings.div_hs_h,
+            Register::IntFlag => self.int_flag(),
+            Register::IntMask => self.settings.int_mask,
+            Register::Rx => self.rx.next_byte(),
+            Register::RxAddr => self.rx.address(),
+            Register::RxPageFlag => self.rx.page_flag(),
+            Register::Tx | Register::RxCtrl | Register::TxCtrl => 0,
+        }
+    }
+}
