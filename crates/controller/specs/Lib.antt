@@ -5,3 +5,4 @@ pub mod Ring
 pub mod Receiver
 pub mod Settings
 pub mod View
+pub mod Bursts

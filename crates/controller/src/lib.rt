@@ -1,6 +1,7 @@
 //! One controller: what it holds, what a written or read register byte does, and what is turned away.
 
 mod bits;
+mod burst;
 mod chip;
 mod names;
 mod page;

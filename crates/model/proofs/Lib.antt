@@ -9,3 +9,4 @@ pub mod Gapless
 pub mod LevelBits
 pub mod Disturbance
 pub mod WorkedExamples
+pub mod Bursts

@@ -7,8 +7,8 @@ ghost use Rattle.model.specs.Controller.{isFree, newTransmitter};
 ghost use Rattle.model.specs.RegisterRule.{stores, zeroesPointer, starts, clearsTx, aborts, txControl, startsTooLong};
 use crate::bits::has;
 use crate::page::PAGE;
-use crate::transmitter::Transmitter;
 use crate::transmitter::TransmitState;
+use crate::transmitter::Transmitter;
 use crate::transmitter::TxPage;
 use frame::MAX_DATA;
 

@@ -35,5 +35,5 @@ returns-in-rest c =
       apart s (codes "RX_ADDR") (n .not-RX-ADDR),
       apart s (codes "RX_PAGE_FLAG") (n .not-RX-PAGE-FLAG),
       apart s (codes "FILTER1") (n .not-FILTER1),
-      apart s (codes "FILTER2") (n .not-FILTER2)
+      apart s (codes "FILTER2") (n .not-FILTER2),
     )
