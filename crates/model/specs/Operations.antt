@@ -37,8 +37,12 @@ at t i = getD t i new
 -- ---- what is turned away: the number of the first rule that fits, 0 if none does
 
 -- a table has 1 to 16 places
+abbrev pub tableSize : ℕ → Bool
+tableSize n = leb 1 n && leb n 16
+
+-- of such a size
 abbrev pub sized : Table → Bool
-sized t = leb 1 (length t) && leb (length t) 16
+sized t = tableSize (length t)
 
 -- tests with the numbers of their refusals: the first that holds decides
 abbrev pub firstOf : List (Bool × ℕ) → ℕ
@@ -46,8 +50,12 @@ firstOf [] = 0
 firstOf (r ∷ rs) = cond (r .0) (r .1) (firstOf rs)
 
 -- 1: the table's size; 2: a controller that is not in it
+abbrev pub refusesPlace : (controller places : ℕ) → List (Bool × ℕ)
+refusesPlace k n = (not (tableSize n), 1) ∷ (leb n k, 2) ∷ []
+
+-- the same of a table
 abbrev pub refusesController : ℕ → Table → List (Bool × ℕ)
-refusesController k t = (not (sized t), 1) ∷ (leb (length t) k, 2) ∷ []
+refusesController k t = refusesPlace k (length t)
 
 -- the most bytes of a burst
 abbrev pub maxBurst : ℕ
