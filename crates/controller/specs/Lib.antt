@@ -1,3 +1,4 @@
+pub mod Bits
 pub mod Refusal
 pub mod Register
 pub mod Transmitter

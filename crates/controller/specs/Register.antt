@@ -33,3 +33,8 @@ place Filter2 = 0x12
 abbrev pub Found : ℕ → Option Register → Type 0
 Found n (Some r) = place r ≡ n
 Found n None = lastRegister < n
+
+-- the number of a register that was found
+abbrev pub numbered : Option Register → Option ℕ
+numbered (Some r) = Some (place r)
+numbered None = None

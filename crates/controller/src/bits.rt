@@ -1,11 +1,12 @@
 ghost use mathlib.Core.Path.{_≡_};
-ghost use Prim.Native.Nat.{_<_};
+ghost use Prim.Native.Nat.{_^_};
+ghost use Rattle.controller.specs.Bits.{bitOf};
 ghost use Rattle.model.specs.Bits.{has as hasBit};
 
-/// Whether a bit of a byte is 1.
-pub(crate) fn has(value: u8, bit: u32) -> bool
-    requires { ⌜ bit < 8 ⌝ }
-    ensures { λ r. ⌜ r ≡ hasBit value bit ⌝ }
+/// Whether a control byte has a bit.
+pub(crate) fn has(value: u8, mask: u8) -> bool
+    requires { ⌜ mask ≡ 2 ^ bitOf mask ⌝ }
+    ensures { λ r. ⌜ r ≡ hasBit value (bitOf mask) ⌝ }
 {
-    (value >> bit) % 2 == 1
+    value & mask != 0
 }

@@ -6,6 +6,7 @@ ghost use Rattle.model.specs.Controller.{readPage, newReceiver};
 ghost use Rattle.model.specs.RegisterRule.{addressed, stepped, isReady, zeroesAddress, switches, clearsRx, resets, rxControl};
 use crate::bits::has;
 use crate::ring::PageRing;
+use crate::rx_ctrl;
 use frame::FrameReader;
 
 /// The receiving half of a controller.
@@ -119,9 +120,12 @@ impl Receiver {
     pub(crate) fn control(&mut self, value: u8)
         ensures { λ _. ⌜ receiver (now (self .exit)) ≡ rxControl value (receiver (now (self .entry))) ⌝ }
     {
-        self.zero_address(has(value, 0));
-        self.switch(has(value, 1));
-        self.clear(has(value, 2), has(value, 3));
-        self.reset(has(value, 4));
+        self.zero_address(has(value, rx_ctrl::ZERO_ADDRESS));
+        self.switch(has(value, rx_ctrl::SWITCH));
+        self.clear(
+            has(value, rx_ctrl::CLEAR_LOST),
+            has(value, rx_ctrl::CLEAR_ERROR),
+        );
+        self.reset(has(value, rx_ctrl::RESET));
     }
 }

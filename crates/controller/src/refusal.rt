@@ -8,29 +8,29 @@ use std::fmt;
 #[derive(Clone, Copy, PartialEq, Eq, Debug)]
 pub enum Refusal {
     /// The table has 0 places, or more than 16.
-    TableSize,
+    TableSize = 1,
     /// The controller number is not in the table.
-    NoController,
+    NoController = 2,
     /// The register number is above 0x12.
-    NoRegister,
+    NoRegister = 3,
     /// The register cannot be written, or cannot be read.
-    NoAccess,
+    NoAccess = 4,
     /// No byte, too many, or several at a register that takes one.
-    ByteCount,
+    ByteCount = 5,
     /// The register does not admit the value.
-    Value,
+    Value = 6,
     /// A transfer on the wires that frames no write and no read.
-    NoShape,
+    NoShape = 7,
     /// An I2C device byte that is not this controller's.
-    OtherDevice,
+    OtherDevice = 8,
     /// No page is ready, or a claim on it is out.
-    NoPageReady,
+    NoPageReady = 9,
     /// The place and the number of bytes pass the end of the buffer.
-    Buffer,
+    Buffer = 10,
     /// A page waits already.
-    PageWaits,
+    PageWaits = 11,
     /// A bench line that has no meaning.
-    MalformedLine,
+    MalformedLine = 12,
 }
 
 impl Refusal {
@@ -38,20 +38,7 @@ impl Refusal {
     pub fn number(self) -> u8
         ensures { λ r. ⌜ r ≡ numberOf self ⌝ }
     {
-        match self {
-            Refusal::TableSize => 1,
-            Refusal::NoController => 2,
-            Refusal::NoRegister => 3,
-            Refusal::NoAccess => 4,
-            Refusal::ByteCount => 5,
-            Refusal::Value => 6,
-            Refusal::NoShape => 7,
-            Refusal::OtherDevice => 8,
-            Refusal::NoPageReady => 9,
-            Refusal::Buffer => 10,
-            Refusal::PageWaits => 11,
-            Refusal::MalformedLine => 12,
-        }
+        self as u8
     }
 
     /// The refusal in words.

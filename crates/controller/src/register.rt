@@ -1,33 +1,40 @@
 ghost use lib.Dec.{eqb};
 ghost use mathlib.Core.Path.{_≡_};
-ghost use Rattle.controller.specs.Register.{Found, place};
-ghost use Rattle.model.specs.Registers.{rxNumber, txNumber, readable, writable, accessOf};
+ghost use Rattle.controller.specs.Register.{Found, place, numbered};
+ghost use Rattle.model.specs.Registers.{rxNumber, txNumber, readable, writable, accessOf, numberOf};
 
 /// The registers, by the names of the data sheet.
 #[derive(Clone, Copy)]
-pub(crate) enum Register {
-    Version,
-    Setting,
-    IdleWaitLen,
-    TxWaitLen,
-    Filter,
-    DivLsL,
-    DivLsH,
-    DivHsL,
-    DivHsH,
-    IntFlag,
-    IntMask,
-    Rx,
-    Tx,
-    RxCtrl,
-    TxCtrl,
-    RxAddr,
-    RxPageFlag,
-    Filter1,
-    Filter2,
+pub enum Register {
+    Version = 0x00,
+    Setting = 0x01,
+    IdleWaitLen = 0x02,
+    TxWaitLen = 0x03,
+    Filter = 0x04,
+    DivLsL = 0x05,
+    DivLsH = 0x06,
+    DivHsL = 0x07,
+    DivHsH = 0x08,
+    IntFlag = 0x09,
+    IntMask = 0x0A,
+    Rx = 0x0B,
+    Tx = 0x0C,
+    RxCtrl = 0x0D,
+    TxCtrl = 0x0E,
+    RxAddr = 0x0F,
+    RxPageFlag = 0x10,
+    Filter1 = 0x11,
+    Filter2 = 0x12,
 }
 
 impl Register {
+    /// The register's number.
+    pub fn number(self) -> u8
+        ensures { λ r. ⌜ r ≡ place self ⌝ }
+    {
+        self as u8
+    }
+
     /// The register of a number; nothing above the last.
     pub(crate) fn by_number(number: u8) -> Option<Register>
         ensures { λ r. ⌜ Found number r ⌝ }
@@ -53,6 +60,34 @@ impl Register {
             0x11 => Some(Register::Filter1),
             0x12 => Some(Register::Filter2),
             0x13.. => None,
+        }
+    }
+
+    /// The register of a name in the data sheet; an unknown name gives nothing.
+    pub fn by_name(name: &str) -> Option<Register>
+        ensures { λ r. ⌜ numbered r ≡ numberOf (now (name .entry)) ⌝ }
+    {
+        match name {
+            "VERSION" => Some(Register::Version),
+            "SETTING" => Some(Register::Setting),
+            "IDLE_WAIT_LEN" => Some(Register::IdleWaitLen),
+            "TX_WAIT_LEN" => Some(Register::TxWaitLen),
+            "FILTER" => Some(Register::Filter),
+            "DIV_LS_L" => Some(Register::DivLsL),
+            "DIV_LS_H" => Some(Register::DivLsH),
+            "DIV_HS_L" => Some(Register::DivHsL),
+            "DIV_HS_H" => Some(Register::DivHsH),
+            "INT_FLAG" => Some(Register::IntFlag),
+            "INT_MASK" => Some(Register::IntMask),
+            "RX" => Some(Register::Rx),
+            "TX" => Some(Register::Tx),
+            "RX_CTRL" => Some(Register::RxCtrl),
+            "TX_CTRL" => Some(Register::TxCtrl),
+            "RX_ADDR" => Some(Register::RxAddr),
+            "RX_PAGE_FLAG" => Some(Register::RxPageFlag),
+            "FILTER1" => Some(Register::Filter1),
+            "FILTER2" => Some(Register::Filter2),
+            _ => None,
         }
     }
 
@@ -89,4 +124,12 @@ impl Register {
     {
         matches!(self, Register::Rx)
     }
+}
+
+/// The number of a register by its name in the data sheet; an unknown name gives nothing.
+pub fn register_number(name: &str) -> Option<u8>
+    ensures { λ r. ⌜ r ≡ numberOf (now (name .entry)) ⌝ }
+{
+    let register = Register::by_name(name)?;
+    Some(register.number())
 }

@@ -12,6 +12,8 @@ use crate::burst::is_burst;
 use crate::chip::Controller;
 use crate::refusal::Refusal;
 use crate::register::Register;
+use crate::rx_ctrl;
+use crate::tx_ctrl;
 
 /// The bits that SETTING admits.
 const SETTING_BITS: u8 = 0x39;
@@ -28,7 +30,8 @@ impl Controller {
             (Register::IdleWaitLen, 0..=9) => false,
             (Register::TxWaitLen, 0) => false,
             (Register::RxCtrl | Register::TxCtrl, 0x20..) => false,
-            (Register::RxCtrl | Register::TxCtrl, v) if has(v, 1) && has(v, 4) => false,
+            (Register::RxCtrl, v) if has(v, rx_ctrl::SWITCH) && has(v, rx_ctrl::RESET) => false,
+            (Register::TxCtrl, v) if has(v, tx_ctrl::START) && has(v, tx_ctrl::ABORT) => false,
             (Register::TxCtrl, v) => !self.tx.starts_too_long(v),
             _ => true,
         }

@@ -2,7 +2,6 @@ ghost use mathlib.Core.Bool.{_&&_};
 ghost use mathlib.Core.Path.{_≡_};
 ghost use Prim.Native.Nat.{_<_};
 ghost use Rattle.controller.specs.Transmitter.{placeOf, opposite, stateOf, transmitter};
-ghost use Rattle.model.specs.Bits.{has as hasBit};
 ghost use Rattle.model.specs.Controller.{isFree, newTransmitter};
 ghost use Rattle.model.specs.RegisterRule.{stores, zeroesPointer, starts, clearsTx, aborts, txControl, startsTooLong};
 use crate::bits::has;
@@ -10,6 +9,7 @@ use crate::page::PAGE;
 use crate::transmitter::TransmitState;
 use crate::transmitter::Transmitter;
 use crate::transmitter::TxPage;
+use crate::tx_ctrl;
 use frame::MAX_DATA;
 
 /// Where the length byte of a message stands.
@@ -107,16 +107,21 @@ impl Transmitter {
     pub(crate) fn control(&mut self, value: u8)
         ensures { λ _. ⌜ transmitter (now (self .exit)) ≡ txControl value (transmitter (now (self .entry))) ⌝ }
     {
-        self.zero_pointer(has(value, 0));
-        self.start(has(value, 1));
-        self.clear(has(value, 2), has(value, 3));
-        self.abort(has(value, 4));
+        self.zero_pointer(has(value, tx_ctrl::ZERO_POINTER));
+        self.start(has(value, tx_ctrl::START));
+        self.clear(
+            has(value, tx_ctrl::CLEAR_CD),
+            has(value, tx_ctrl::CLEAR_ERROR),
+        );
+        self.abort(has(value, tx_ctrl::ABORT));
     }
 
     /// A START that would be taken with a length byte that no frame has.
     pub(crate) fn starts_too_long(&self, value: u8) -> bool
         ensures { λ r. ⌜ r ≡ startsTooLong value (transmitter (now (self .entry))) ⌝ }
     {
-        has(value, 1) && self.is_free() && self.pages[self.written.place()][LENGTH_AT] > MAX_DATA
+        has(value, tx_ctrl::START)
+            && self.is_free()
+            && self.pages[self.written.place()][LENGTH_AT] > MAX_DATA
     }
 }

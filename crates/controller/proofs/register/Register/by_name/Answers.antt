@@ -6,7 +6,7 @@ use mathlib.Core.Path.{_≡_}
 use lib.Chars.{codes}
 use Rattle.std.specs.shelf.Text.{sameBytes}
 use Rattle.std.proofs.shelf.Equals.{sameBytes-decides}
-use Rattle.controller.proofs.names.register_number.Needs as need
+use Rattle.controller.proofs.register.Register.by_name.Needs as need
 
 apart : (s p : List ℕ) → (s ≡ p → ⊥) → sameBytes s p ≡ false
 apart s p h = search (needs, sameBytes-decides)
