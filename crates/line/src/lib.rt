@@ -6,3 +6,6 @@ mod table;
 pub use ports::port_read;
 pub use ports::port_write;
 pub use table::new_table;
+
+#[cfg(test)]
+mod tests;
