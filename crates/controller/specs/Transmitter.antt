@@ -1,7 +1,7 @@
 -- A transmitter of the code as the rules have it.
 use mathlib.Core.List.{[]}
 use Prim.Native.Nat.{ℕ}
-use lib.ListN.{getD}
+use lib.ListN.{getD, set}
 use Rattle.model.specs.Controller.{TransmitState as Model-state, free, waiting, sending, Transmitter as Model-transmitter, new}
 use Rattle.controller.specs.declared.transmitter.TxPage.{TxPage}
 use Rattle.controller.specs.declared.transmitter.TxPage.the-variants.{First, Second}
@@ -35,4 +35,16 @@ transmitter t = record {
   conflicts = t .conflicts;
   txCd = t .«tx_cd»;
   txError = t .«tx_error»;
+}
+
+-- with a byte in the written page, at the write pointer, which stays
+abbrev pub putting : ℕ → Model-transmitter → Model-transmitter
+putting v t = record {
+  written = set (t .written) (t .pointer) v;
+  other = t .other;
+  pointer = t .pointer;
+  state = t .state;
+  conflicts = t .conflicts;
+  txCd = t .txCd;
+  txError = t .txError;
 }

@@ -1,7 +1,7 @@
 ghost use mathlib.Core.Bool.{_&&_};
 ghost use mathlib.Core.Path.{_≡_};
 ghost use Prim.Native.Nat.{_<_};
-ghost use Rattle.controller.specs.Transmitter.{placeOf, opposite, stateOf, transmitter};
+ghost use Rattle.controller.specs.Transmitter.{placeOf, opposite, transmitter, putting};
 ghost use Rattle.model.specs.Controller.{isFree, newTransmitter};
 ghost use Rattle.model.specs.RegisterRule.{stores, zeroesPointer, starts, clearsTx, aborts, txControl, startsTooLong};
 use crate::bits::has;
@@ -57,11 +57,18 @@ impl Transmitter {
         matches!(self.state, TransmitState::Free)
     }
 
+    /// A byte in the written page, at the write pointer.
+    fn put(&mut self, byte: u8)
+        ensures { λ _. ⌜ transmitter (now (self .exit)) ≡ putting byte (transmitter (now (self .entry))) ⌝ }
+    {
+        self.pages[self.written.place()][usize::from(self.pointer)] = byte;
+    }
+
     /// Stores a byte at the write pointer, which steps on.
     pub(crate) fn store(&mut self, byte: u8)
         ensures { λ _. ⌜ transmitter (now (self .exit)) ≡ stores byte (transmitter (now (self .entry))) ⌝ }
     {
-        self.pages[self.written.place()][usize::from(self.pointer)] = byte;
+        self.put(byte);
         self.pointer = self.pointer.wrapping_add(1);
     }
 

@@ -72,11 +72,9 @@ impl FrameReader {
     pub fn hunting() -> FrameReader
         ensures { λ r. ⌜ reading r ≡ hunting ⌝ }
     {
-        FrameReader {
-            bytes: [0; LONGEST],
-            count: 0,
-            phase: Phase::Hunting,
-        }
+        let mut reader = FrameReader::new();
+        reader.hunt();
+        reader
     }
 
     /// Leaves the frame that is being read, if any, and hunts.

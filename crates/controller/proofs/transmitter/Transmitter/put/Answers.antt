@@ -4,7 +4,7 @@ use lib.ListN.{length, getD, set}
 use mathlib.Core.List.{[]}
 use Rattle.controller.specs.Transmitter.{placeOf}
 use Rattle.controller.proofs.TxPages.{set-written, set-other}
-use Rattle.controller.proofs.transmitter.Transmitter.store.Needs as need
+use Rattle.controller.proofs.transmitter.Transmitter.put.Needs as need
 
 pub returns : need.returns
 returns c =
