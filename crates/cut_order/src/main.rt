@@ -1,6 +1,7 @@
 //! One cut order, followed from the nesting screen on. Each line that is printed is what the code computed.
 
 mod drawing;
+mod loading;
 mod screen;
 mod story;
 mod tally;
@@ -15,9 +16,10 @@ use std::error::AnyError;
 fn follow(rt: &LibcRuntime) -> Result<(), AnyError> {
     let heap = rt.alloc();
     println!(rt, "A cut order, followed from the nesting screen on.")?;
-    let message = ORDER.message(heap, PLANNER, SPREADER)?;
+    let message = ORDER.message(heap, PLANNER.address, SPREADER.address)?;
     story::tell_order(rt, &ORDER, &message)?;
     story::tell_frame(rt, &message)?;
+    loading::tell_loading(rt, &message)?;
     let delivery = deliver(heap, &message)?;
     story::tell_levels(rt, &delivery)?;
     story::tell_arbitration(rt)?;

@@ -3,14 +3,38 @@
 use order::CutOrder;
 use order::SizeLine;
 
-/// The planner's controller, from which orders go out.
-pub const PLANNER: u8 = 0x0D;
+/// A station: its address on the line, and the number of its controller there.
+#[derive(Clone, Copy)]
+pub struct Station {
+    pub name: &'static str,
+    pub address: u8,
+    pub controller: usize,
+}
 
-pub const PLOTTER: u8 = 0x0C;
+/// From here orders go out.
+pub const PLANNER: Station = Station {
+    name: "planner",
+    address: 0x0D,
+    controller: 0,
+};
 
-pub const SPREADER: u8 = 0x20;
+pub const PLOTTER: Station = Station {
+    name: "plotter",
+    address: 0x0C,
+    controller: 1,
+};
 
-pub const KNIFE: u8 = 0x21;
+pub const SPREADER: Station = Station {
+    name: "spreader",
+    address: 0x20,
+    controller: 2,
+};
+
+pub const KNIFE: Station = Station {
+    name: "knife",
+    address: 0x21,
+    controller: 3,
+};
 
 /// The order of the day.
 pub const ORDER: CutOrder = CutOrder {

@@ -5,6 +5,7 @@ use crate::screen::KNIFE;
 use crate::screen::PLANNER;
 use crate::screen::PLOTTER;
 use crate::screen::SPREADER;
+use crate::screen::Station;
 use crate::tally::Tally;
 use crate::tally::every_burst;
 use frame::Arbitration;
@@ -79,7 +80,7 @@ pub(crate) fn tell_levels(rt: &LibcRuntime, delivery: &Delivery) -> Result<(), A
     let count = delivery.levels.len();
     println!(
         rt,
-        "\n3. On the line it is {count} levels: for each byte a start bit 0, eight bits with the lowest"
+        "\n4. On the line it is {count} levels: for each byte a start bit 0, eight bits with the lowest"
     )?;
     println!(
         rt,
@@ -96,26 +97,28 @@ pub(crate) fn tell_levels(rt: &LibcRuntime, delivery: &Delivery) -> Result<(), A
     Ok(())
 }
 
-fn tell_source(rt: &LibcRuntime, station: &str, source: u8) -> Result<(), AnyError> {
+fn tell_source(rt: &LibcRuntime, station: Station) -> Result<(), AnyError> {
+    let name = station.name;
+    let source = station.address;
     let bits = drawing::sent_bits(rt.alloc(), source)?;
     let reversed = reversed_source(source);
     println!(
         rt,
-        "     {station} 0x{source:02X}: source bits as sent {bits}, reversed byte 0x{reversed:02X}"
+        "     {name} 0x{source:02X}: source bits as sent {bits}, reversed byte 0x{reversed:02X}"
     )?;
     Ok(())
 }
 
 pub(crate) fn tell_arbitration(rt: &LibcRuntime) -> Result<(), AnyError> {
-    println!(rt, "\n4. The plotter begins in the same bit time.")?;
-    tell_source(rt, "planner", PLANNER)?;
-    tell_source(rt, "plotter", PLOTTER)?;
-    let first = match arbitrate(PLANNER, PLOTTER) {
+    println!(rt, "\n5. The plotter begins in the same bit time.")?;
+    tell_source(rt, PLANNER)?;
+    tell_source(rt, PLOTTER)?;
+    let first = match arbitrate(PLANNER.address, PLOTTER.address) {
         Arbitration::First => "planner goes first, and the plotter draws back",
         Arbitration::Second => "plotter goes first, and the planner draws back",
         Arbitration::Tie => "two send alike, and none draws back",
     };
-    let bit = (PLANNER ^ PLOTTER).trailing_zeros();
+    let bit = (PLANNER.address ^ PLOTTER.address).trailing_zeros();
     println!(
         rt,
         "   They differ first in source bit {bit}. A 0 is stronger than a 1, which is what the reversed"
@@ -163,7 +166,7 @@ pub(crate) fn tell_reading(
 ) -> Result<(), AnyError> {
     println!(
         rt,
-        "\n5. Once the plotter has sent its frame, the order goes out. A receiver that was idle reads:"
+        "\n6. Once the plotter has sent its frame, the order goes out. A receiver that was idle reads:"
     )?;
     let levels = delivery.levels.as_slice();
     let Some((_, most)) = levels.split_last() else {
@@ -179,7 +182,9 @@ pub(crate) fn tell_reading(
     Ok(())
 }
 
-fn tell_filter(rt: &LibcRuntime, station: &str, own: u8, header: Header) -> Result<(), AnyError> {
+fn tell_filter(rt: &LibcRuntime, station: Station, header: Header) -> Result<(), AnyError> {
+    let name = station.name;
+    let own = station.address;
     let filters = Filters {
         filter: own,
         filter1: 0xFF,
@@ -190,7 +195,7 @@ fn tell_filter(rt: &LibcRuntime, station: &str, own: u8, header: Header) -> Resu
     } else {
         "drops it"
     };
-    println!(rt, "     {station}, FILTER 0x{own:02X}: {taken}")?;
+    println!(rt, "     {name}, FILTER 0x{own:02X}: {taken}")?;
     Ok(())
 }
 
@@ -200,11 +205,11 @@ pub(crate) fn tell_filters(rt: &LibcRuntime, message: &[u8]) -> Result<(), AnyEr
     };
     println!(
         rt,
-        "\n6. Each controller's filter looks at the source and the destination:"
+        "\n7. Each controller's filter looks at the source and the destination:"
     )?;
-    tell_filter(rt, "spreader", SPREADER, header)?;
-    tell_filter(rt, "knife", KNIFE, header)?;
-    tell_filter(rt, "planner", PLANNER, header)?;
+    tell_filter(rt, SPREADER, header)?;
+    tell_filter(rt, KNIFE, header)?;
+    tell_filter(rt, PLANNER, header)?;
     Ok(())
 }
 
@@ -212,7 +217,7 @@ pub(crate) fn tell_filters(rt: &LibcRuntime, message: &[u8]) -> Result<(), AnyEr
 pub(crate) fn tell_burst(rt: &LibcRuntime, message: &[u8]) -> Result<(), AnyError> {
     println!(
         rt,
-        "\n7. A motor pulls the line low while the order is sent:"
+        "\n8. A motor pulls the line low while the order is sent:"
     )?;
     for (start, count) in [(402, 3), (405, 8)] {
         let Some(burst) = Burst::new(start, count) else {
@@ -274,6 +279,11 @@ pub(crate) fn tell_promises(rt: &LibcRuntime) -> Result<(), AnyError> {
         "                      never as another where up to 16 levels in a row, none of the length byte,"
     )?;
     println!(rt, "                      are pulled low.")?;
+    println!(
+        rt,
+        "   line::port_write   and port_read refuse and do just what the register rules say, to the one"
+    )?;
+    println!(rt, "                      controller that they name.")?;
     println!(
         rt,
         "   model::worked_examples holds {examples} worked examples of the rules."
