@@ -5,6 +5,7 @@ use crate::receiver::Receiver;
 use crate::settings::Settings;
 use crate::transmitter::Transmitter;
 
+mod interrupt;
 mod read;
 mod write;
 

@@ -1,14 +1,12 @@
 ghost use lib.ListN.{length};
 ghost use mathlib.Core.Path.{_≡_};
-ghost use Prim.Native.Nat.{_*_, _≤_};
 ghost use Rattle.controller.specs.Bursts.{afterRead, bufferRead};
 ghost use Rattle.controller.specs.Refusal.{refusedAs};
 ghost use Rattle.controller.specs.Register.{place as placeOf};
 ghost use Rattle.controller.specs.View.{node};
-ghost use Rattle.model.specs.Bits.{bit};
 ghost use Rattle.model.specs.Operations.{firstOf, refusesRead};
 ghost use Rattle.model.specs.Registers.{registerOf};
-ghost use Rattle.model.specs.RegisterRule.{idle, gives, givesAll, leaves, leavesAll, intFlags, interrupts};
+ghost use Rattle.model.specs.RegisterRule.{gives, givesAll, leaves, leavesAll};
 ghost use Rattle.std.specs.Vec.{made};
 use crate::burst::is_burst;
 use crate::chip::Controller;
@@ -18,41 +16,7 @@ use crate::register::Register;
 /// What VERSION reads as.
 const VERSION: u8 = 0x07;
 
-/// A flag at its place in INT_FLAG.
-fn weigh(flag: bool, weight: u8) -> u8
-    ensures is { λ r. ⌜ r ≡ weight * bit flag ⌝ }
-    ensures most { λ r. ⌜ r ≤ weight ⌝ }
-{
-    if flag { weight } else { 0 }
-}
-
 impl Controller {
-    fn is_idle(&self) -> bool
-        ensures { λ r. ⌜ r ≡ idle (node (now (self .entry))) ⌝ }
-    {
-        self.rx.is_idle(self.settings.idle_wait_len)
-    }
-
-    /// INT_FLAG
-    fn int_flag(&self) -> u8
-        ensures { λ r. ⌜ r ≡ intFlags (node (now (self .entry))) ⌝ }
-    {
-        weigh(self.is_idle(), 1)
-            + weigh(self.rx.is_ready(), 2)
-            + weigh(self.rx.rx_lost, 4)
-            + weigh(self.rx.rx_error, 8)
-            + weigh(self.tx.is_free(), 16)
-            + weigh(self.tx.tx_cd, 32)
-            + weigh(self.tx.tx_error, 64)
-    }
-
-    /// INT_N is low: INT_FLAG and INT_MASK share a 1.
-    pub fn int_n_low(&self) -> bool
-        ensures { λ r. ⌜ r ≡ interrupts (node (now (self .entry))) ⌝ }
-    {
-        self.int_flag() & self.settings.int_mask != 0
-    }
-
     /// The byte that a register gives; reading RX steps RX_ADDR on.
     fn read_byte(&mut self, register: Register) -> u8
         ensures gives { λ r. ⌜ r ≡ gives (registerOf (placeOf register)) (node (now (self .entry))) ⌝ }

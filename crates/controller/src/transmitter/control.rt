@@ -1,6 +1,4 @@
-ghost use mathlib.Core.Bool.{_&&_};
 ghost use mathlib.Core.Path.{_≡_};
-ghost use Prim.Native.Nat.{_<_};
 ghost use Rattle.controller.specs.Transmitter.{placeOf, opposite, transmitter, putting};
 ghost use Rattle.model.specs.Controller.{isFree, newTransmitter};
 ghost use Rattle.model.specs.RegisterRule.{stores, zeroesPointer, starts, clearsTx, aborts, txControl, startsTooLong};
@@ -100,7 +98,7 @@ impl Transmitter {
         self.tx_error = self.tx_error && !error;
     }
 
-    /// Bit 4: a waiting page, sent or not, waits no more.
+    /// Bit 4: a waiting page, being sent or not, is aborted.
     fn abort(&mut self, asked: bool)
         ensures { λ _. ⌜ transmitter (now (self .exit)) ≡ aborts asked (transmitter (now (self .entry))) ⌝ }
     {
