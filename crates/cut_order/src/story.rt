@@ -281,9 +281,12 @@ pub(crate) fn tell_promises(rt: &LibcRuntime) -> Result<(), AnyError> {
     println!(rt, "                      are pulled low.")?;
     println!(
         rt,
-        "   line::port_write   and port_read refuse and do just what the register rules say, to the one"
+        "   line::port_write   and port_read refuse and do just what the register rules say; a message that is"
     )?;
-    println!(rt, "                      controller that they name.")?;
+    println!(
+        rt,
+        "                      written to TX and STARTed where no page waits is what then waits."
+    )?;
     println!(
         rt,
         "   model::worked_examples holds {examples} worked examples of the rules."

@@ -31,7 +31,7 @@ pub(crate) fn check_controller(places: usize, controller: usize) -> Result<(), R
     Ok(())
 }
 
-/// Makes every controller of the table new.
+/// Makes every controller of the table new. Refused for the size of the table, which then stays.
 pub fn new_table(table: &mut [Controller]) -> Result<(), Refusal>
     ensures refuses { λ r. ⌜ refusedAs r ≡ refusesNew (nodes (now (table .entry))) ⌝ }
     ensures after { λ _. ⌜ nodes (now (table .exit)) ≡ renewed (nodes (now (table .entry))) ⌝ }

@@ -10,3 +10,6 @@ pub mod LevelBits
 pub mod Disturbance
 pub mod WorkedExamples
 pub mod Bursts
+pub mod Histories
+pub mod Pages
+pub mod Loading

@@ -13,6 +13,7 @@ pub mod Operations
 pub mod Wires
 pub mod Calls
 pub mod Histories
+pub mod Loading
 pub mod Codec
 pub mod Disturbance
 pub mod WorkedExamples

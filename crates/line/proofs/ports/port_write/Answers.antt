@@ -1,4 +1,5 @@
 use Rattle.model.specs.Operations.{write, refusal}
+use Rattle.model.proofs.Loading.{all-loaded}
 use Rattle.controller.specs.View.{nodes}
 use Rattle.controller.proofs.Outcomes.{refused-exit}
 use Rattle.line.proofs.Operations.{refused-then, write-refused-first, write-refusal, write-then}
@@ -13,6 +14,7 @@ returns-in-Break-check-controller c =
     record {
       refuses = refused-exit (c .from-residual .result) why (refusal o (nodes table)) (c .from-residual .ensures .1) because;
       after = refused-then o (nodes table) why because;
+      loads = all-loaded;
     }
 
 pub returns : need.returns
@@ -26,4 +28,5 @@ returns c =
     record {
       refuses = write-refusal table k r vs d _ none (c .write .ensures .refuses);
       after = write-then table k r vs d (c .write .last .self) none (c .write .ensures .after);
+      loads = all-loaded;
     }
