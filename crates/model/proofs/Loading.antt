@@ -3,7 +3,7 @@ use mathlib.Core.Path.{_≡_, refl, sym, ap, ap₂, _∙_, subst}
 use mathlib.Core.Bool.{Bool, true, false, cond, not, _&&_, _||_}
 use mathlib.Core.List.{List, [], _∷_, _++_, map}
 use Prim.Native.Nat.{ℕ, suc, _+_, _%_, _≤_, _<_}
-use native.Mathlib.Nat.{mod-eq-of-lt}
+use native.Mathlib.Nat.{mod-eq-of-lt, zero-add}
 use native.Mathlib.Numerals.{add-one}
 use native.Mathlib.Omega.{arith}
 use lib.Dec.{eqb, leb, ltb}
@@ -59,16 +59,27 @@ carries m c is free page =
     let full = writesAll tx m start in
     let room : 0 + length m ≤ length (c .tx .written) = omega (arith, is .small, is .whole) in
     let still : isFree (full .tx .state) ≡ true = ap isFree (kept (λ x. x .tx .state) (λ _ _. refl) m start) ∙ free in
-    let written : full .tx .written ≡ m ++ drop (0 + length m) (c .tx .written) = stored m start (omega arith) ∙ sets-eq m (c .tx .written) 0 room in
-    let other = ap (λ b. cond b (full .tx .written) (full .tx .other)) still ∙ written in
-    let holds = ap message other ∙ message-first m (drop (0 + length m) (c .tx .written)) is in
+    let written : full .tx .written ≡ m ++ drop (length m) (c .tx .written) = stored m start (omega arith)
+        ∙ sets-eq m (c .tx .written) 0 room ∙ ap (λ n. m ++ drop n (c .tx .written)) (zero-add (length m)) in
+    let behind = ap (λ b. cond b (full .tx .written) (full .tx .other)) still ∙ written in
+    let holds = ap message behind ∙ message-first m (drop (length m) (c .tx .written)) is in
     record {
       waits = ap (λ b. cond b waiting (full .tx .state)) still;
       holds = holds;
       sends = ap frameLevels holds;
+      behind = behind;
+      next = ap (λ b. cond b (full .tx .other) (full .tx .written)) still ∙ kept (λ x. x .tx .other) (λ _ _. refl) m start;
+      pointer = ap (λ b. cond b 0 (full .tx .pointer)) still;
+      conflicts = kept (λ x. x .tx .conflicts) (λ _ _. refl) m start;
+      txCd = and-true (full .tx .txCd) ∙ kept (λ x. x .tx .txCd) (λ _ _. refl) m start ∙ and-true (c .tx .txCd);
+      txError = and-true (full .tx .txError) ∙ kept (λ x. x .tx .txError) (λ _ _. refl) m start ∙ and-true (c .tx .txError);
       settings = kept (λ x. x .settings) (λ _ _. refl) m start;
       rx = kept (λ x. x .rx) (λ _ _. refl) m start;
     }
+  where
+    and-true : (b : Bool) → (b && true) ≡ b
+    and-true true = refl
+    and-true false = refl
 
 -- the length byte of what is to be STARTed
 short-enough : (m : List ℕ) (c : Controller) → Message m → length (c .tx .written) ≡ pageSize

@@ -4,7 +4,7 @@ use mathlib.Core.Logic.{_≢_}
 use mathlib.Core.Bool.{true}
 use mathlib.Core.List.{List, [], _∷_, _++_, map}
 use Prim.Native.Nat.{ℕ, _≤_, _<_}
-use lib.ListN.{length}
+use lib.ListN.{length, drop}
 use Rattle.std.specs.Joined.{joined}
 use Rattle.model.specs.Frames.{Message, frameLevels, message}
 use Rattle.model.specs.Registers.{txNumber, txCtrlNumber}
@@ -26,11 +26,18 @@ Bursts (b ∷ bs) = (1 ≤ length b) × (length b ≤ maxBurst) × Bursts bs
 abbrev pub Accepted : Operation → Table → Type 0
 Accepted o t = accepted o t ≡ true
 
--- a page waits that carries this message, and settings and receiver are as they were
+-- A page waits that carries this message. It is the page that was written, with what stood behind the message's
+-- place; the other one is written next, from place 0 on; and all else is as it was.
 pub record Carries (m : List ℕ) (before after : Controller) : Type 0 where
   pub waits : after .tx .state ≡ waiting
   pub holds : message (after .tx .other) ≡ m
   pub sends : frameOf (after .tx) ≡ frameLevels m
+  pub behind : after .tx .other ≡ m ++ drop (length m) (before .tx .written)
+  pub next : after .tx .written ≡ before .tx .other
+  pub pointer : after .tx .pointer ≡ 0
+  pub conflicts : after .tx .conflicts ≡ before .tx .conflicts
+  pub txCd : after .tx .txCd ≡ before .tx .txCd
+  pub txError : after .tx .txError ≡ before .tx .txError
   pub settings : after .settings ≡ before .settings
   pub rx : after .rx ≡ before .rx
 
