@@ -60,7 +60,7 @@ carries m c is free page =
     let room : 0 + length m ≤ length (c .tx .written) = omega (arith, is .small, is .whole) in
     let still : isFree (full .tx .state) ≡ true = ap isFree (kept (λ x. x .tx .state) (λ _ _. refl) m start) ∙ free in
     let written : full .tx .written ≡ m ++ drop (length m) (c .tx .written) = stored m start (omega arith)
-        ∙ sets-eq m (c .tx .written) 0 room ∙ ap (λ n. m ++ drop n (c .tx .written)) (zero-add (length m)) in
+    ∙ sets-eq m (c .tx .written) 0 room ∙ ap (λ n. m ++ drop n (c .tx .written)) (zero-add (length m)) in
     let behind = ap (λ b. cond b (full .tx .written) (full .tx .other)) still ∙ written in
     let holds = ap message behind ∙ message-first m (drop (length m) (c .tx .written)) is in
     record {
