@@ -1,7 +1,7 @@
 ghost use Prim.Native.Nat.{_<_};
 use crate::page::RxPage;
 
-mod turn;
+mod pages;
 
 /// The RX pages of a controller.
 const RX_PAGES: usize = 8;

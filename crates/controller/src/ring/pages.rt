@@ -55,7 +55,7 @@ impl PageRing {
         ensures { λ _. ⌜ pageRing (now (self .exit)) ≡ switched asked (pageRing (now (self .entry))) ⌝ }
     {
         if asked && self.is_ready() {
-            self.read = (self.read + 1) % 8;
+            self.read = (self.read + 1) % RX_PAGES as u8;
             self.ready -= 1;
         }
     }
