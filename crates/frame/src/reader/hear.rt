@@ -68,18 +68,20 @@ impl FrameReader {
         }
     }
 
-    /// A reader that hunts: no frame is open, and every level is passed over.
+    /// A reader that hunts: no frame is open, no byte is read, and every level is passed over.
     pub fn hunting() -> FrameReader
-        ensures { λ r. ⌜ reading r ≡ hunting ⌝ }
+        ensures hunts { λ r. ⌜ reading r ≡ hunting ⌝ }
+        ensures empty { λ r. ⌜ bytesOf r ≡ [] ⌝ }
     {
         let mut reader = FrameReader::new();
         reader.hunt();
         reader
     }
 
-    /// Leaves the frame that is being read, if any, and hunts.
+    /// Leaves the frame that is being read, if any, with its bytes, and hunts.
     pub fn hunt(&mut self)
-        ensures { λ _. ⌜ reading (now (self .exit)) ≡ hunting ⌝ }
+        ensures hunts { λ _. ⌜ reading (now (self .exit)) ≡ hunting ⌝ }
+        ensures empty { λ _. ⌜ bytesOf (now (self .exit)) ≡ [] ⌝ }
     {
         self.count = 0;
         self.phase = Phase::Hunting;
