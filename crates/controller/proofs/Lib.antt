@@ -1,4 +1,3 @@
 pub mod TxPages
 pub mod Control
 pub mod Outcomes
-pub mod Copies

@@ -7,6 +7,3 @@ pub mod Receiver
 pub mod Settings
 pub mod View
 pub mod Bursts
-pub mod Transmission
-pub mod Marks
-pub mod Look

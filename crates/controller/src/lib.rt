@@ -3,9 +3,7 @@
 mod bits;
 mod burst;
 mod chip;
-mod marks;
 mod page;
-mod pointer;
 mod receiver;
 mod refusal;
 mod register;
@@ -16,6 +14,5 @@ mod transmitter;
 pub mod tx_ctrl;
 
 pub use chip::Controller;
-pub use marks::Marks;
 pub use refusal::Refusal;
 pub use register::{Register, register_number};

@@ -4,19 +4,16 @@ ghost use Rattle.model.specs.Controller.{read_page, new_receiver};
 ghost use Rattle.model.specs.RegisterRule.{addressed, stepped, is_ready, zeroes_address, switches, clears_rx, resets, rx_control};
 
 use crate::bits::has;
-use crate::pointer::RxPointer;
 use crate::ring::PageRing;
 use crate::rx_ctrl;
 use frame::FrameReader;
-
-mod listen;
-mod look;
 
 /// The receiving half of a controller.
 #[derive(Clone, Copy)]
 pub(crate) struct Receiver {
     ring: PageRing,
-    pointer: RxPointer,
+    /// RX_ADDR
+    address: u8,
     pub(crate) rx_lost: bool,
     pub(crate) rx_error: bool,
     /// Holds a frame until it ends, so that no page is touched before.
@@ -31,7 +28,7 @@ impl Receiver {
     {
         Receiver {
             ring: PageRing::new(),
-            pointer: RxPointer::new(),
+            address: 0,
             rx_lost: false,
             rx_error: false,
             reader: FrameReader::hunting(),
@@ -42,13 +39,13 @@ impl Receiver {
     pub(crate) fn address(&self) -> u8
         ensures { result ≡ (receiver self.now).address }
     {
-        self.pointer.get()
+        self.address
     }
 
     pub(crate) fn set_address(&mut self, address: u8)
         ensures { receiver self.new ≡ addressed address (receiver self.old) }
     {
-        self.pointer.set(address);
+        self.address = address;
     }
 
     /// The byte of the read page at RX_ADDR, which steps on.
@@ -56,8 +53,8 @@ impl Receiver {
         ensures byte { result ≡ slice_index (read_page (receiver self.old).ring).bytes (receiver self.old).address }
         ensures after { receiver self.new ≡ stepped (receiver self.old) }
     {
-        let byte = self.ring.byte(self.pointer.get());
-        self.pointer.step();
+        let byte = self.ring.byte(self.address);
+        self.address = self.address.wrapping_add(1);
         byte
     }
 
@@ -68,10 +65,10 @@ impl Receiver {
     }
 
     /// At least so many levels 1 since the last 0.
-    pub(crate) fn is_idle(&self, wait: u16) -> bool
+    pub(crate) fn is_idle(&self, wait: u8) -> bool
         ensures { result ≡ nat_le wait (receiver self.now).ones }
     {
-        wait <= self.ones
+        u16::from(wait) <= self.ones
     }
 
     pub(crate) fn page_flag(&self) -> u8
@@ -85,7 +82,7 @@ impl Receiver {
         ensures { receiver self.new ≡ zeroes_address asked (receiver self.old) }
     {
         if asked {
-            self.pointer.set(0);
+            self.address = 0;
         }
     }
 

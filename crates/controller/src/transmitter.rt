@@ -3,8 +3,6 @@ ghost use Rattle.std.specs.Prelude.{◌<◌};
 use crate::page::PAGE;
 
 mod control;
-mod pages;
-mod transmit;
 
 /// One of the two TX pages.
 #[derive(Clone, Copy)]

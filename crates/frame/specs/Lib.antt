@@ -5,4 +5,3 @@ pub mod Message
 pub mod Phase
 pub mod Reader
 pub mod Read
-pub mod Level

@@ -4,7 +4,6 @@ mod arbitration;
 mod checksum;
 mod filter;
 mod header;
-mod level;
 mod message;
 mod reader;
 
@@ -12,7 +11,6 @@ pub use arbitration::{Arbitration, arbitrate, reversed_source};
 pub use checksum::crc;
 pub use filter::Filters;
 pub use header::Header;
-pub use level::{BYTE_LEVELS, frame_level};
 pub use message::{MAX_DATA, MessageError, frame_levels};
 pub use reader::{FrameReader, Progress, Reading, read_frame};
 

@@ -5,7 +5,7 @@ use Rattle.model.specs.Registers.{Register, version, stored, int_flag, rx, tx, r
 use Rattle.model.specs.Controller.{page_size, Controller, Table, new}
 use Rattle.model.specs.RegisterRule.{takes_start, zeroes_pointer, writes, writes_all, leaves, leaves_all, tx_control}
 use Rattle.model.specs.Bits.{has}
-use Rattle.model.specs.BitTime.{ticked, line_level}
+use Rattle.model.specs.BitTime.{begun, transmits, ticked, line_level}
 use Rattle.model.specs.Operations.{Operation, write, read, bit_time, malformed, at, accepted, done, then}
 use Rattle.model.specs.Calls.{new_table}
 use Rattle.model.specs.Histories.{after_all}
@@ -64,6 +64,7 @@ leaves_all-paged r zero c p = p
 leaves_all-paged r (suc n) c p = leaves_all-paged r n (leaves r c) (leaves-paged r c p)
 
 ticked-paged : (level : Bool) (c : Controller) → Paged c → Paged (ticked level c)
+unfolding ticked transmits begun
 ticked-paged level c p = record { written = p.written; other = p.other }
 
 -- ---- a table

@@ -6,8 +6,8 @@ use Rattle.model.specs.Crc.{shifted}
 use Rattle.model.specs.Frames.{length_byte, Message, frame_levels}
 use Rattle.model.specs.Registers.{tx_ctrl_number}
 use Rattle.model.specs.Controller.{Table, new, is_free, read_page}
-use Rattle.model.specs.RegisterRule.{starts_too_long, gives_all, leaves_all, tx_control, writes_all}
-use Rattle.model.specs.BitTime.{page_of}
+use Rattle.model.specs.RegisterRule.{starts_too_long, gives_all, leaves_all, tx_control, writes_all, idle}
+use Rattle.model.specs.BitTime.{begins, begun, counts, draws_back, drives, end_broken, end_right, filled, finishes, follows, gives_up, in_last, in_source, line_level, listens, marks, next_level, noticed, page_of, ticked, times_out, transmits, wanted}
 use Rattle.model.specs.Operations.{write, at, sized, refusal, accepted, done, then}
 use Rattle.model.specs.Reading.{crc_right}
 use Rattle.model.specs.Wires.{spi, i2c}
@@ -37,7 +37,7 @@ start l n e t k size in_table none is =
 
 -- the histories and the transfers, computed
 computed : Every Holds (drop 8 worked_examples)
-unfolding accepted crc_right done gives_all has i2c leaves_all new new_table number page_of read_page refusal shifted spi then tx_control writes_all
+unfolding accepted begins begun counts crc_right done draws_back drives end_broken end_right filled finishes follows gives_all gives_up has i2c idle in_last in_source leaves_all line_level listens marks new new_table next_level noticed number page_of read_page refusal shifted spi then ticked times_out transmits tx_control wanted writes_all
 computed = (refl, (refl, (refl, (refl, (refl, (refl, (refl, tt)))))))
 
 pub all_hold : Every Holds worked_examples

@@ -1,6 +1,6 @@
 -- The other calls on a table: a new table, a run until an interrupt, a look at the read page.
 use Rattle.std.specs.Prelude.{◌≡◌, ℕ, zero, suc, ◌-◌, ◌<◌, ◌≤◌, min, Bool, true, false, cond, not, ◌⊎◌, List, [], ◌∷◌, ◌++◌, length, take, drop, replicate, ◌==◌}
-use Rattle.model.specs.Controller.{page_size, PageRing, Table, new, read_page}
+use Rattle.model.specs.Controller.{page_size, Table, new, read_page}
 use Rattle.model.specs.RegisterRule.{is_ready, interrupts}
 use Rattle.model.specs.Operations.{bit_time, at, sized, first_of, refuses_controller, put_into, done}
 
@@ -42,20 +42,12 @@ after_run k n t = cond (refuses_run k t == 0) (later n t) t
 -- ---- look
 
 -- 9: no page ready
-abbrev pub refuses_page : PageRing → List (Bool × ℕ)
-refuses_page g = (not (is_ready g), 9) ∷ []
-
--- 1, 2 and 9
 unfoldable pub refuses_look : ℕ → Table → ℕ
-refuses_look k t = first_of (refuses_controller k t ++ refuses_page (at t k).rx.ring)
+refuses_look k t = first_of (refuses_controller k t ++ ((not (is_ready (at t k).rx.ring), 9) ∷ []))
 
 -- the bytes of the read page from a place on, until a buffer of so many places is full or place 255 was read
-unfoldable pub page_from : ℕ → PageRing → ℕ → List ℕ
-page_from place g buffer = take (min buffer (page_size - place)) (drop place (read_page g).bytes)
-
--- those of a controller's read page
 unfoldable pub looked : ℕ → ℕ → Table → ℕ → List ℕ
-looked k place t buffer = page_from place (at t k).rx.ring buffer
+looked k place t buffer = take (min buffer (page_size - place)) (drop place (read_page (at t k).rx.ring).bytes)
 
 -- how many bytes a look answers
 unfoldable pub look_count : ℕ → ℕ → Table → ℕ → ℕ

@@ -224,13 +224,9 @@ admits rx_page_flag v c = false
 
 -- ---- reading
 
--- at least IDLE_WAIT_LEN levels 1 since the last 0
-abbrev pub hears_idle : Settings → Receiver → Bool
-hears_idle s r = nat_le s.idle_wait r.ones
-
--- idle: its receiver hears so
-abbrev pub idle : Controller → Bool
-idle c = hears_idle c.settings c.rx
+-- idle: at least IDLE_WAIT_LEN levels 1 since the last 0
+unfoldable pub idle : Controller → Bool
+idle c = nat_le c.settings.idle_wait c.rx.ones
 
 -- INT_FLAG, bit 0 first
 abbrev pub int_flags : Controller → ℕ

@@ -17,7 +17,7 @@ impl Controller {
     fn is_idle(&self) -> bool
         ensures { result ≡ idle (node self.now) }
     {
-        self.rx.is_idle(u16::from(self.settings.idle_wait_len))
+        self.rx.is_idle(self.settings.idle_wait_len)
     }
 
     /// INT_FLAG

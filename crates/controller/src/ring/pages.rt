@@ -1,6 +1,6 @@
-ghost use Rattle.std.specs.Prelude.{◌≡◌, length, slice_index};
+ghost use Rattle.std.specs.Prelude.{◌≡◌, slice_index};
 ghost use Rattle.controller.specs.Ring.{page_of, page_ring};
-ghost use Rattle.model.specs.Controller.{page_size, read_page, new_ring};
+ghost use Rattle.model.specs.Controller.{read_page, new_ring};
 ghost use Rattle.model.specs.RegisterRule.{is_ready, switched, wiped};
 
 use crate::page::{PAGE, RxPage};
@@ -36,8 +36,7 @@ impl PageRing {
 
     /// The byte of the read page at an address.
     pub(crate) fn byte(&self, address: u8) -> u8
-        ensures byte { result ≡ slice_index (read_page (page_ring self.now)).bytes address }
-        ensures whole { length (read_page (page_ring self.now)).bytes ≡ page_size }
+        ensures { result ≡ slice_index (read_page (page_ring self.now)).bytes address }
     {
         self.read_page().bytes[usize::from(address)]
     }
