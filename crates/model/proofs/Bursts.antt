@@ -1,5 +1,5 @@
 -- Bursts of register bytes: cut in two they are two bursts, and one byte more is one more register access.
-use Rattle.std.proofs.Common.{◌≡◌, ℕ, zero, suc, ◌+◌, ◌<◌, List, [], ◌∷◌, ◌++◌, length, get_or, drop, sym, refl, ap, ◌∙◌, suc-add, zero-add, add-one, drop-cons}
+use Rattle.std.proofs.Common.{◌≡◌, ℕ, zero, suc, ◌+◌, ◌<◌, List, [], ◌∷◌, ◌++◌, length, get_or, drop, refl, ap, ◌∙◌, suc-add, zero-add, add-one, drop-cons}
 use Rattle.model.specs.Registers.{Register}
 use Rattle.model.specs.Controller.{Controller}
 use Rattle.model.specs.RegisterRule.{writes, writes_all, gives, leaves, gives_all, leaves_all}

@@ -1,8 +1,8 @@
 -- What is sent is read, and what is read was sent.
 use Rattle.std.proofs.Common.{◌≡◌, ℕ, zero, suc, ◌+◌, ◌-◌, ◌*◌, ◌/◌, ◌%◌, ◌^◌, ◌<◌, ◌≤◌, Bool, true, false, cond, List, [], ◌∷◌, ◌++◌, length, get_or, take, drop, sym, refl, ap, ◌∙◌, subst, ap₂, ⊎_elim, append_assoc, append-nil, arith, length-append, drop-cons}
 use Rattle.std.proofs.lemmas.List.{get_or_append_left, get_or-take, take-append-drop, length-take-le, drop_all, length_push}
-use Rattle.std.proofs.lemmas.Bool.{eqb-true, and_parts, cases_lt}
-use Rattle.model.specs.Bits.{bits, number}
+use Rattle.std.proofs.lemmas.Bool.{eqb-true, cases_lt}
+use Rattle.model.specs.Bits.{number}
 use Rattle.model.specs.Crc.{sent_bits, crc_of}
 use Rattle.model.specs.Levels.{Bytes, levels}
 use Rattle.model.specs.Frames.{max_data, length_byte, Message, framed, frame_levels}

@@ -2,7 +2,7 @@
 use Rattle.std.proofs.Common.{◌≡◌, ℕ, zero, suc, ◌+◌, ◌*◌, ◌≤◌, Bool, true, false, cond, List, [], ◌∷◌, ◌++◌, length, get_or, take, refl, ap, arith}
 use Rattle.std.proofs.lemmas.List.{length_push}
 use Rattle.model.specs.Bits.{number}
-use Rattle.model.specs.Reading.{Reading, hunting, between, inside, Step, goes, ends_broken, ends_right, crc_right, too_long, complete, judged, reads, right, heard_on}
+use Rattle.model.specs.Reading.{Reading, hunting, between, inside, Step, goes, ends_broken, ends_right, crc_right, too_long, complete, reads, right, heard_on}
 
 -- the number of levels heard: ten for each byte read, and those of a byte that has come in part
 Counted : Reading → ℕ → Type 0

@@ -1,11 +1,11 @@
 -- How a frame is judged at a stop bit.
-use Rattle.std.proofs.Common.{◌≡◌, ℕ, ◌+◌, ◌-◌, ◌*◌, ◌/◌, ◌%◌, ◌<◌, ◌≤◌, Bool, true, false, cond, ◌&&◌, eqb, ltb, leb, ◌≢◌, List, [], ◌∷◌, ◌++◌, length, get_or, take, sym, refl, ap, ◌∙◌, ap₂, append_assoc, arith, length-append}
+use Rattle.std.proofs.Common.{◌≡◌, ℕ, ◌+◌, ◌-◌, ◌*◌, ◌/◌, ◌%◌, ◌<◌, ◌≤◌, true, false, cond, ◌&&◌, eqb, ltb, leb, ◌≢◌, List, [], ◌∷◌, ◌++◌, length, get_or, sym, ap, ◌∙◌, ap₂, append_assoc, arith, length-append}
 use Rattle.std.proofs.lemmas.List.{get_or_append_left, get_or_at, take_at}
 use Rattle.std.proofs.lemmas.Bool.{eq-eqb}
 use Rattle.std.proofs.lemmas.Bool.Decides.{nat_tests}
 use Rattle.model.specs.Crc.{crc_of}
 use Rattle.model.specs.Frames.{max_data, length_byte, Message, framed}
-use Rattle.model.specs.Reading.{between, Step, goes, ends_broken, ends_right, crc_right, too_long, complete, judged}
+use Rattle.model.specs.Reading.{between, goes, ends_broken, ends_right, crc_right, too_long, complete, judged}
 
 -- where these tests come out so, the frame goes on or ends right
 judged-goes : (p : List ℕ) → too_long p ≡ false → complete p ≡ false → judged true p ≡ goes (between p)

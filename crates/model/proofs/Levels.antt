@@ -1,5 +1,5 @@
 -- Levels of bytes.
-use Rattle.std.proofs.Common.{◌≡◌, ℕ, suc, ◌+◌, ◌*◌, ◌<◌, true, false, List, [], ◌∷◌, ◌++◌, length, get_or, sym, refl, ap, ◌∙◌, arith, length-append}
+use Rattle.std.proofs.Common.{◌≡◌, ℕ, suc, ◌+◌, ◌*◌, ◌<◌, true, false, List, [], ◌∷◌, ◌++◌, length, get_or, refl, ap, ◌∙◌, arith, length-append}
 use Rattle.model.specs.Bits.{bits}
 use Rattle.model.specs.Levels.{Bytes, levels}
 use Rattle.model.specs.Frames.{length_byte, Message, framed, frame_levels}

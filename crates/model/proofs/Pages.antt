@@ -1,5 +1,5 @@
 -- What every history keeps: the number of controllers, and TX pages of 256 bytes.
-use Rattle.std.proofs.Common.{◌≡◌, ℕ, zero, suc, Bool, true, false, cond, List, [], ◌∷◌, map, length, get_or, set, replicate, sym, refl, ap, ◌∙◌, subst}
+use Rattle.std.proofs.Common.{◌≡◌, ℕ, zero, suc, Bool, true, false, cond, List, [], ◌∷◌, map, length, set, refl, ◌∙◌}
 use Rattle.std.proofs.lemmas.List.{length-set, length-map, length-replicate}
 use Rattle.model.specs.Registers.{Register, version, stored, int_flag, rx, tx, rx_ctrl, tx_ctrl, rx_addr, rx_page_flag, register_of}
 use Rattle.model.specs.Controller.{page_size, Controller, Table, new}

@@ -1,14 +1,13 @@
 -- Each worked example holds.
-use Rattle.std.proofs.Common.{◌≡◌, ℕ, ◌+◌, ◌*◌, ◌<◌, Bool, true, false, cond, not, ◌&&◌, ltb, leb, List, [], ◌∷◌, ◌++◌, length, drop, sym, refl, ap, ◌∙◌, ap₂, arith}
+use Rattle.std.proofs.Common.{◌≡◌, ℕ, ◌+◌, ◌*◌, Bool, true, false, cond, not, ◌&&◌, ltb, leb, List, length, drop, refl, ap, ◌∙◌, arith}
 use borrow.Author.Tests.{lt-leb}
 use Rattle.model.specs.Bits.{number, has, reversed}
 use Rattle.model.specs.Crc.{shifted}
 use Rattle.model.specs.Frames.{length_byte, Message, frame_levels}
-use Rattle.model.specs.Registers.{tx_ctrl_number}
-use Rattle.model.specs.Controller.{Table, new, is_free, read_page}
+use Rattle.model.specs.Controller.{new, read_page}
 use Rattle.model.specs.RegisterRule.{starts_too_long, gives_all, leaves_all, tx_control, writes_all, idle}
 use Rattle.model.specs.BitTime.{begins, begun, counts, draws_back, drives, end_broken, end_right, filled, finishes, follows, gives_up, in_last, in_source, line_level, listens, marks, next_level, noticed, page_of, ticked, times_out, transmits, wanted}
-use Rattle.model.specs.Operations.{write, at, sized, refusal, accepted, done, then}
+use Rattle.model.specs.Operations.{at, refusal, accepted, done, then}
 use Rattle.model.specs.Reading.{crc_right}
 use Rattle.model.specs.Wires.{spi, i2c}
 use Rattle.model.specs.Calls.{new_table}

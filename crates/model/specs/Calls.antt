@@ -1,5 +1,5 @@
 -- The other calls on a table: a new table, a run until an interrupt, a look at the read page.
-use Rattle.std.specs.Prelude.{◌≡◌, ℕ, zero, suc, ◌-◌, ◌<◌, ◌≤◌, min, Bool, true, false, cond, not, ◌⊎◌, List, [], ◌∷◌, ◌++◌, length, take, drop, replicate, ◌==◌}
+use Rattle.std.specs.Prelude.{◌≡◌, ℕ, zero, suc, ◌-◌, ◌<◌, ◌≤◌, min, true, false, cond, not, ◌⊎◌, List, [], ◌∷◌, ◌++◌, length, take, drop, replicate, ◌==◌}
 use Rattle.model.specs.Controller.{page_size, Table, new, read_page}
 use Rattle.model.specs.RegisterRule.{is_ready, interrupts}
 use Rattle.model.specs.Operations.{bit_time, at, sized, first_of, refuses_controller, put_into, done}

@@ -1,5 +1,5 @@
 -- The operations that make up a table's history: port writes, port reads and bit times, with what they turn away.
-use Rattle.std.specs.Prelude.{ℕ, ◌+◌, Bool, true, false, cond, not, ◌&&◌, ◌||◌, List, [], ◌∷◌, ◌++◌, map, length, take, drop, ◌==◌, nat_le, nat_lt, slice_index, slice_index_or, slice_set}
+use Rattle.std.specs.Prelude.{ℕ, ◌+◌, Bool, true, cond, not, ◌&&◌, ◌||◌, List, [], ◌∷◌, ◌++◌, map, length, take, drop, ◌==◌, nat_le, nat_lt, slice_index, slice_index_or, slice_set}
 use Rattle.model.specs.Registers.{last_register, rx_number, tx_number, readable, writable, access_of, register_of}
 use Rattle.model.specs.Controller.{Controller, Table, new}
 use Rattle.model.specs.RegisterRule.{writes_all, admits, gives_all, leaves_all}

@@ -1,11 +1,11 @@
 -- The register rule: what a written or read register byte does.
-use Rattle.std.specs.Prelude.{ℕ, zero, suc, ◌+◌, ◌-◌, ◌*◌, ◌%◌, Bool, true, false, cond, not, ◌&&◌, ◌||◌, List, [], ◌∷◌, set, ◌==◌, bit_and, nat_le, nat_lt, slice_index, slice_set}
+use Rattle.std.specs.Prelude.{ℕ, zero, suc, ◌+◌, ◌-◌, ◌*◌, ◌%◌, Bool, true, false, cond, not, ◌&&◌, List, [], ◌∷◌, ◌==◌, bit_and, nat_le, nat_lt, slice_index, slice_set}
 use Rattle.model.specs.Bits.{bit, has}
 use Rattle.model.specs.Frames.{max_data, length_byte}
 use Rattle.model.specs.Reading.{hunting}
 use Rattle.model.specs.Filter.{Filters}
 use Rattle.model.specs.Registers.{Stored, setting, idle_wait_len, tx_wait_len, filter, filter1, filter2, divider, int_mask, Register, version, stored, int_flag, rx, tx, rx_ctrl, tx_ctrl, rx_addr, rx_page_flag, admits_stored, admits_control}
-use Rattle.model.specs.Controller.{page_size, Settings, TransmitState, free, waiting, Transmitter, PageRing, Receiver, Controller, is_free, next_page, read_page}
+use Rattle.model.specs.Controller.{page_size, Settings, free, waiting, Transmitter, PageRing, Receiver, Controller, is_free, next_page, read_page}
 
 -- ---- one part of a record changed
 

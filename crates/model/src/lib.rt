@@ -1,4 +1,6 @@
 // The rules stand in specs/; here are the functions that hold theorems about them.
+#![tactic(auto)]
+
 ghost use Rattle.std.specs.Prelude.{◌≡◌, length};
 ghost use Rattle.model.specs.WorkedExamples.{Every, Holds, worked_examples};
 

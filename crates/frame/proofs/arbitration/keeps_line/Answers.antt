@@ -13,5 +13,5 @@ kept a b false ha hb e =
 
 pub returns : goal.returns
 returns c =
-    kept c.args.source c.args.other (ltb c.reversed-source.result c.reversed-source-2.result) (omega arith) (omega arith)
-    (sym (ap₂ ltb c.reversed-source.ensures c.reversed-source-2.ensures))
+    kept c.args.source c.args.other (ltb c.reversed_source.result c.reversed_source-2.result) (omega arith) (omega arith)
+    (sym (ap₂ ltb c.reversed_source.ensures c.reversed_source-2.ensures))

@@ -14,4 +14,4 @@ onto (suc k) n before =
 
 pub returns : goal.returns
 unfolding reversed number
-returns c = c.reverse-bits.ensures ∙ onto 8 c.args.byte []
+returns c = c.reverse_bits.ensures ∙ onto 8 c.args.byte []

@@ -5,4 +5,4 @@ use Rattle.frame.proofs.message.push_frame.Goals as goal
 pub returns : goal.returns
 returns c =
     frame_pushed (vec_items c.args.levels.now) _ _ c.args.message.now _ c.crc.result c.crc.ensures (omega arith)
-    c.to-le-bytes.ensures c.in-ok-push-bytes.ensures c.in-ok-push-bytes-2.ensures
+    c.to_le_bytes.ensures c.in_ok-push_bytes.ensures c.in_ok-push_bytes-2.ensures

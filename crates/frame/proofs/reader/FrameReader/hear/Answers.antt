@@ -12,8 +12,8 @@ returns-then-left-eq0 c =
     record {
       step = stop_heard c.args.level r.phase (bytes_of r) c.in-Inside.left c.in-Inside.value c.in-Inside.is
           c.if-left-eq0.true (omega arith)
-          ∙ c.end-byte.ensures.step;
-      hunts = c.end-byte.ensures.hunts;
+          ∙ c.end_byte.ensures.step;
+      hunts = c.end_byte.ensures.hunts;
       keeps = λ e. absurd (not_hunting r.phase (bytes_of r) c.in-Inside.left c.in-Inside.value c.in-Inside.is e);
     }
 
