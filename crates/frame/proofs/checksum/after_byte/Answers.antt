@@ -14,8 +14,8 @@ index_lt i r x h e = omega (arith, low_byte r x, xor_lt 8 (r % 256) x (omega ari
 pub bounds-from : goal.bounds-from
 bounds-from c = search (rules, index_lt)
 
-pub offset-bounds-from : goal.offset-bounds-from
-offset-bounds-from c = let k : c.from.result < 256 = search (rules, index_lt) in omega arith
+pub offset_bounds-from : goal.offset_bounds-from
+offset_bounds-from c = let k : c.from.result < 256 = search (rules, index_lt) in omega arith
 
 -- the table is eight shifts of each byte, which antt computes
 pub returns : goal.returns

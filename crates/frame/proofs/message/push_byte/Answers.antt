@@ -10,4 +10,4 @@ loop-bit-preserved c =
 pub returns : goal.returns
 returns c =
     byte_pushed (vec_items c.args.levels.now) _ (vec_items c.loop-bit.levels) _ c.loop-bit._bit c.loop-bit.rest c.args.byte
-    (omega arith) c.in_ok-push.ensures.items c.loop-bit.invariant c.in-ok-push-3.ensures.items
+    (omega arith) c.in_ok-push.ensures.items c.loop-bit.invariant c.in_ok-push-3.ensures.items

@@ -5,12 +5,12 @@ use Rattle.frame.specs.Reader.{reading}
 use Rattle.frame.proofs.Steps.{heard-on, heard-end}
 use Rattle.frame.proofs.reader.FrameReader.hear_all.Goals as goal
 
-pub returns-in-default : goal.returns-in-default
-returns-in-default c =
+pub returns-in_default : goal.returns-in_default
+returns-in_default c =
     record {
       hears = sym c.loop-i.invariant
           ∙ heard-end c.args.levels.now c.loop-i.i (reading c.loop-i.self) c.hear.result c.hear.new.self
-          c.loop-i-test.true c.hear.ensures.step c.in-default.not-Unfinished;
+          c.loop-i-test.true c.hear.ensures.step c.in_default.not-Unfinished;
       within = omega arith;
     }
 
