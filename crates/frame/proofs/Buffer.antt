@@ -1,10 +1,10 @@
 -- A reader's buffer and the byte that comes in, as the rules see them.
-use Rattle.std.proofs.Common.{◌≡◌, ℕ, suc, ◌+◌, ◌*◌, ◌/◌, ◌<◌, ◌≤◌, Bool, true, false, cond, ◌≢◌, List, [], ◌∷◌, ◌++◌, length, get_or, take, drop, set, sym, refl, ap, ◌∙◌, arith, length-set}
-use Rattle.std.proofs.lemmas.List.{take_more_set, length-take-le, get_or-take, get_or-set_other, drop-append-le}
+use Rattle.std.proofs.Common.{◌≡◌, ℕ, suc, ◌+◌, ◌*◌, ◌/◌, ◌<◌, ◌≤◌, Bool, true, false, cond, ◌≢◌, List, [], ◌∷◌, ◌++◌, length, take, drop, set, sym, refl, ap, ◌∙◌, arith, length-set}
+use Rattle.std.proofs.lemmas.List.{length-take-le, get_or-take, get_or-set_other, drop-append-le}
 use Rattle.std.proofs.lemmas.Bool.Decides.{nat_tests}
 use Rattle.model.specs.Bits.{bit, bits}
 use Rattle.model.specs.Frames.{max_data, length_byte}
-use Rattle.model.specs.Reading.{Step, between, goes, ends_broken, ends_right, too_long, complete, crc_right, judged}
+use Rattle.model.specs.Reading.{between, goes, ends_broken, ends_right, too_long, complete, crc_right, judged}
 use Rattle.model.proofs.Bits.{length-bits, bits-top}
 use Rattle.model.proofs.Judged.{not_too_long, not_complete}
 use Rattle.frame.specs.Phase.{goes_on}

@@ -1,5 +1,5 @@
 -- What the code answers for bytes that are to be a message.
-use Rattle.std.specs.Prelude.{◌≡◌, ℕ, ◌+◌, ◌<◌, ◌≤◌, ◌≢◌, List, length, codes}
+use Rattle.std.specs.Prelude.{ℕ, ◌+◌, ◌<◌, ◌≤◌, ◌≢◌, List, length, codes}
 use Rattle.model.specs.Frames.{max_data, length_byte, Message}
 use Rattle.frame.specs.declared.message.MessageError.{MessageError}
 use Rattle.frame.specs.declared.message.MessageError.TheVariants.{NoHeader, TooLong, WrongLength, NoMemory}

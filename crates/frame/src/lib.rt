@@ -1,4 +1,5 @@
 //! Code on bytes, levels and frames.
+#![tactic(auto)]
 
 mod arbitration;
 mod checksum;

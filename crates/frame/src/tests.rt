@@ -15,7 +15,7 @@ fn header_is_split_off(rt: HostRuntime) -> Result<(), Fail> {
     assert_eq!(rt; header.source, 0x0C);
     assert_eq!(rt; header.destination, 0x0D);
     assert_eq!(rt; header.length, 0x01);
-    assert_eq!(rt; rest, &[0xCD]);
+    assert_eq!(rt; rest, [0xCD].as_slice());
     assert!(rt; Header::split(&[0x0C, 0x0D]).is_none());
     Ok(())
 }
@@ -54,7 +54,10 @@ fn a_frame_reads_as_it_was_sent(rt: HostRuntime) -> Result<(), Fail> {
     else {
         return Err(Fail::new("not right"));
     };
-    assert_eq!(rt; bytes.as_slice(), &[0x0C, 0x0D, 0x01, 0xCD, 0x52, 0xB2]);
+    assert_eq!(rt;
+        bytes.as_slice(),
+        [0x0C, 0x0D, 0x01, 0xCD, 0x52, 0xB2].as_slice()
+    );
     assert_eq!(rt; count, 60);
     Ok(())
 }

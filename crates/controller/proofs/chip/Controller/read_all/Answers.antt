@@ -32,9 +32,9 @@ loop-byte-preserved c =
     let i = c.loop-byte.byte-index in
     let start = node c.args.self.now in
     let before = c.loop-byte.invariant.1 in (
-      ap (λ (xs : List ℕ). set xs i c.read-byte.result) c.loop-byte.invariant.0
-          ∙ one_more r start c.args.part.now i c.read-byte.result c.loop-byte-test.true (c.read-byte.ensures.gives ∙ ap (gives r) before),
-      c.read-byte.ensures.leaves ∙ ap (leaves r) before ∙ sym (leaves_all-more r i start),
+      ap (λ (xs : List ℕ). set xs i c.read_byte.result) c.loop-byte.invariant.0
+          ∙ one_more r start c.args.part.now i c.read_byte.result c.loop-byte-test.true (c.read_byte.ensures.gives ∙ ap (gives r) before),
+      c.read_byte.ensures.leaves ∙ ap (leaves r) before ∙ sym (leaves_all-more r i start),
     )
 
 pub returns : goal.returns

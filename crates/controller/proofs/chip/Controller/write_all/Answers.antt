@@ -11,7 +11,7 @@ pub loop-byte-preserved : goal.loop-byte-preserved
 loop-byte-preserved c =
     let r = register_of (place c.args.register) in
     let rest = drop (c.loop-byte.byte-index + 1) c.args.bytes.now in
-    ap (writes_all r rest) c.write-byte.ensures
+    ap (writes_all r rest) c.write_byte.ensures
     ∙ writes_all-next r c.args.bytes.now c.loop-byte.byte-index (node c.loop-byte.self) c.loop-byte-test.true
     ∙ c.loop-byte.invariant
 

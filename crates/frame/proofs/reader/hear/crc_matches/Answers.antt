@@ -1,4 +1,4 @@
-use Rattle.std.proofs.Common.{◌≡◌, ℕ, ◌+◌, ◌-◌, ◌*◌, eqb, length, get_or, take, sym, ap, ◌∙◌, ap₂, arith}
+use Rattle.std.proofs.Common.{◌≡◌, ◌+◌, ◌-◌, ◌*◌, eqb, length, get_or, take, ap, ◌∙◌, ap₂, arith}
 use Rattle.model.specs.Crc.{crc_of}
 use Rattle.model.specs.Reading.{crc_right}
 use Rattle.frame.proofs.reader.hear.crc_matches.Goals as goal
