@@ -1,6 +1,6 @@
 -- A transmitter of the code as the rules have it.
 use Rattle.std.specs.Prelude.{ℕ, [], slice_index_or, slice_set}
-use Rattle.model.specs.Controller.{TransmitState as ModelState, free, waiting, sending, Transmitter as ModelTransmitter, new}
+use Rattle.model.specs.Controller.{TransmitState as ModelState, free, waiting, sending, Transmitter as ModelTransmitter}
 use Rattle.controller.specs.declared.transmitter.TxPage.{TxPage}
 use Rattle.controller.specs.declared.transmitter.TxPage.TheVariants.{First, Second}
 use Rattle.controller.specs.declared.transmitter.TransmitState.{TransmitState}

@@ -1,4 +1,5 @@
 //! One controller: what it holds, what a written or read register byte does, and what is turned away.
+#![tactic(auto)]
 
 mod bits;
 mod burst;
