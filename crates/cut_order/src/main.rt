@@ -1,4 +1,5 @@
 //! One cut order, followed from the nesting screen on. Each line that is printed is what the code computed.
+#![tactic(auto)]
 
 mod drawing;
 mod loading;

@@ -1,4 +1,5 @@
 //! The controllers on one line, in a table that the caller lends; each call changes them in place.
+#![tactic(auto)]
 
 mod ports;
 mod table;

@@ -1,4 +1,5 @@
 //! Cut orders as messages, and what becomes of a message on the line.
+#![tactic(auto)]
 
 mod burst;
 mod cut;

@@ -1,4 +1,4 @@
-use Rattle.std.proofs.Common.{◌≡◌, ℕ, ◌≤◌, cond, List, [], ◌++◌, map, length, take, drop, sym, ap, ◌∙◌, ap₂, arith}
+use Rattle.std.proofs.Common.{◌≡◌, ℕ, ◌≤◌, cond, ◌++◌, map, length, take, drop, sym, ap, ◌∙◌, ap₂, arith}
 use Rattle.std.proofs.lemmas.List.{append-nil, take_all, drop_all, length-map}
 use Rattle.model.specs.Controller.{Table, new}
 use Rattle.model.specs.Operations.{table_size}
@@ -15,16 +15,16 @@ all_new t i past =
     ap₂ (λ (xs ys : Table). map (λ _. new) xs ++ ys) (take_all i t past) (drop_all i t past)
     ∙ append-nil (map (λ _. new) t) ∙ map_same new t
 
-pub returns-in-err-check-size : goal.returns-in-err-check-size
+pub returns-in_err-check_size : goal.returns-in_err-check_size
 unfolding refuses_new renewed
-returns-in-err-check-size c =
+returns-in_err-check_size c =
     let table = c.args.table.now in
     let t = nodes table in
-    let why = c.in-err-check-size.field-0.0 in
+    let why = c.in_err-check_size.field-0.0 in
     let because : number_of why ≡ refuses_new t =
-    c.in-err-check-size.ensures ∙ ap (λ n. cond {A = ℕ} (table_size n) 0 1) (sym (length-map table node)) in
+    c.in_err-check_size.ensures ∙ ap (λ n. cond {A = ℕ} (table_size n) 0 1) (sym (length-map table node)) in
     record {
-      refuses = refused_exit c.from-residual.result why (refuses_new t) c.from-residual.ensures.1 because;
+      refuses = refused_exit c.from_residual.result why (refuses_new t) c.from_residual.ensures.1 because;
       after = refused_leaves why (refuses_new t) (new_table (length t)) t because;
     }
 
@@ -41,7 +41,7 @@ returns c =
     let t = nodes table in
     let past : length t ≤ c.loop-controller.controller-index = omega (arith, length-map table node) in
     let fine : ◌≡◌ {A = ℕ} 0 (refuses_new t) =
-    c.in-ok-check-size.ensures ∙ ap (λ n. cond {A = ℕ} (table_size n) 0 1) (sym (length-map table node)) in
+    c.in_ok-check_size.ensures ∙ ap (λ n. cond {A = ℕ} (table_size n) 0 1) (sym (length-map table node)) in
     record {
       refuses = fine;
       after = c.loop-controller.invariant ∙ all_new t c.loop-controller.controller-index past

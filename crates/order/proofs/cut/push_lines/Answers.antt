@@ -8,7 +8,7 @@ use Rattle.order.proofs.cut.push_lines.Goals as goal
 pub loop-line-preserved : goal.loop-line-preserved
 loop-line-preserved c =
     lines_more (vec_items c.args.bytes.now) (vec_items c.loop-line.bytes) _ c.args.lines.now c.loop-line.line-index
-    (record { size = 0; plies = 0; pieces = 0 }) c.loop-line-test.true c.loop-line.invariant c.in-ok-push-line.ensures
+    (record { size = 0; plies = 0; pieces = 0 }) c.loop-line-test.true c.loop-line.invariant c.in_ok-push_line.ensures
 
 pub returns : goal.returns
 returns c =

@@ -8,8 +8,8 @@ use Rattle.order.proofs.delivery.hear.Goals as goal
 pub returns : goal.returns
 returns c =
     let ls = vec_items c.args.levels in
-    let x = c.in-ok-reading.reading in
-    let says = c.in-ok-reading.ensures in
+    let x = c.in_ok-reading.reading in
+    let says = c.in_ok-reading.ensures in
     let read = subst (λ k. ReadAs (length k) (heard after_idle k) x) c.deref.ensures.value says.reads in
     record {
       same = refl;

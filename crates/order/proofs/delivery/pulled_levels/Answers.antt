@@ -8,9 +8,9 @@ pub returns : goal.returns
 returns c =
     let m = c.args.message.now in
     let b = c.args.burst.now in
-    let sent = c.in-ok-sent.ensures in
+    let sent = c.in_ok-sent.ensures in
     record {
       message = sent.0;
       short = short-burst b.start b.count b.bounds;
-      pulled = pulled_frame m (pulls b) (vec_items c.in-ok-pulled.pulled) _ _ c.in-ok-pulled.ensures c.deref.ensures.value sent.1;
+      pulled = pulled_frame m (pulls b) (vec_items c.in_ok-pulled.pulled) _ _ c.in_ok-pulled.ensures c.deref.ensures.value sent.1;
     }

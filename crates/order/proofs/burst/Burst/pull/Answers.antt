@@ -5,7 +5,7 @@ use Rattle.order.proofs.burst.Burst.pull.Goals as goal
 
 pub loop-place-preserved : goal.loop-place-preserved
 loop-place-preserved c =
-    c.in-ok-push.ensures.items
+    c.in_ok-push.ensures.items
     ∙ pulled_more c.args.levels.now (pulls c.args.self.now) (vec_items c.loop-place.pulled) c.loop-place.place
     c.level.result c.loop-place-test.true c.loop-place.invariant c.level.ensures
 
