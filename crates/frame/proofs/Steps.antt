@@ -4,7 +4,7 @@ use Rattle.std.proofs.lemmas.List.{drop_more}
 use Rattle.std.proofs.lemmas.Bool.{and_parts, leb-true}
 use Rattle.model.specs.Bits.{bit, bits}
 use Rattle.model.specs.Frames.{length_byte}
-use Rattle.model.specs.Reading.{Reading, hunting, Step, inside, goes, reads, judged, heard, heard_on}
+use Rattle.model.specs.Reading.{Reading, hunting, Step, inside, goes, reads, bytes_read, judged, heard, heard_on}
 use Rattle.model.proofs.Bits.{number-bits}
 use Rattle.frame.specs.declared.reader.Phase.{Phase}
 use Rattle.frame.specs.declared.reader.Phase.TheVariants.{Inside}
@@ -43,6 +43,12 @@ pub stop_heard : (level : Bool) (phase : Phase) (xs : List ℕ) (left value : �
 stop_heard level phase xs left value is zero_left byte =
     ap (λ p. reads level (standing p xs)) (is ∙ ap (λ n. Inside n value) zero_left)
     ∙ ap (λ v. judged level (xs ++ (v ∷ []))) (number-bits 8 value byte)
+
+-- a byte whose eight bits were read counts before its stop bit comes
+pub whole_byte : (phase : Phase) (xs : List ℕ) (left value : ℕ) → phase ≡ Inside left value → left ≡ 0 → value < 256
+    → bytes_read (standing phase xs) ≡ xs ++ (value ∷ [])
+whole_byte phase xs left value is zero_left byte =
+    ap (λ p. bytes_read (standing p xs)) (is ∙ ap (λ n. Inside n value) zero_left) ∙ ap (λ v. xs ++ (v ∷ [])) (number-bits 8 value byte)
 
 -- before it
 pub bit-heard : (level : Bool) (phase : Phase) (xs : List ℕ) (left value more : ℕ) → phase ≡ Inside left value

@@ -5,3 +5,4 @@ pub mod Message
 pub mod Phase
 pub mod Reader
 pub mod Read
+pub mod Level

@@ -2,6 +2,7 @@ ghost use Rattle.std.specs.Prelude.{◌≡◌, true, length};
 ghost use Rattle.frame.specs.Phase.{sound};
 
 mod hear;
+mod open;
 mod read;
 
 pub use hear::Progress;

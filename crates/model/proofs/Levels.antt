@@ -1,5 +1,7 @@
 -- Levels of bytes.
-use Rattle.std.proofs.Common.{◌≡◌, ℕ, suc, ◌+◌, ◌*◌, ◌<◌, true, false, List, [], ◌∷◌, ◌++◌, length, get_or, refl, ap, ◌∙◌, arith, length-append}
+use Rattle.std.proofs.Common.{◌≡◌, ℕ, zero, suc, ◌+◌, ◌*◌, ◌<◌, ◌≤◌, true, false, List, [], ◌∷◌, ◌++◌, length, get_or, refl, ap, ◌∙◌, arith, length-append}
+use lib.ListN.{get_or-eq_default}
+use Rattle.std.proofs.lemmas.List.{get_or_append_left, get_or-append-add}
 use Rattle.model.specs.Bits.{bits}
 use Rattle.model.specs.Levels.{Bytes, levels}
 use Rattle.model.specs.Frames.{length_byte, Message, framed, frame_levels}
@@ -24,3 +26,21 @@ length-levels (x ∷ xs) = omega (arith, length-levels xs)
 
 pub length-frame : (xs : List ℕ) → Message xs → length (frame_levels xs) ≡ 10 * (length_byte xs + 5)
 length-frame xs m = length-levels (framed xs) ∙ ap (λ n. 10 * n) (simp length-append (omega (arith, m.whole)))
+
+-- ---- one level
+
+-- level r of byte q
+pub level_at : (xs : List ℕ) (q r : ℕ) → r < 10 → q < length xs → get_or (levels xs) (10 * q + r) true ≡ get_or (levels (get_or xs q 0 ∷ [])) r true
+level_at [] q r small lt = absurd (omega arith)
+level_at (x ∷ xs) zero r small lt =
+    let here : 10 * 0 + r ≡ r = omega arith in
+    ap (λ n. get_or (levels (x ∷ xs)) n true) here ∙ get_or_append_left (levels (x ∷ [])) (levels xs) true r small
+level_at (x ∷ xs) (suc q) r small lt =
+    let later : 10 * suc q + r ≡ 10 + (10 * q + r) = omega arith in
+    ap (λ n. get_or (levels (x ∷ xs)) n true) later
+    ∙ get_or-append-add (levels (x ∷ [])) (levels xs) (10 * q + r) true
+    ∙ level_at xs q r small (omega arith)
+
+-- behind the last stop bit
+pub level_behind : (xs : List ℕ) (n : ℕ) → 10 * length xs ≤ n → get_or (levels xs) n true ≡ true
+level_behind xs n past = get_or-eq_default (levels xs) true (omega (arith, length-levels xs))

@@ -1,0 +1,44 @@
+ghost use Rattle.std.specs.Prelude.{◌≡◌, true, [], ◌∷◌, slice_index_or};
+ghost use Rattle.frame.specs.Level.{ByteAt};
+ghost use Rattle.model.specs.Frames.{framed, frame_levels};
+ghost use Rattle.model.specs.Levels.{levels};
+
+use crate::checksum::crc;
+
+/// The levels of a byte: start bit, eight bits with the lowest first, stop bit.
+pub const BYTE_LEVELS: usize = 10;
+
+/// A level of a byte, and 1 behind its stop bit.
+fn byte_level(byte: u8, place: usize) -> bool
+    ensures { result ≡ slice_index_or (levels (byte ∷ [])) place true }
+{
+    match place {
+        0 => false,
+        1..=8 => (byte >> (place - 1)) % 2 == 1,
+        _ => true,
+    }
+}
+
+/// A byte of the frame that carries a message; the CRC stands behind the message, low byte first.
+fn frame_byte(message: &[u8], index: usize) -> Option<u8>
+    ensures { ByteAt (framed message.now) index result }
+{
+    if index < message.len() {
+        return Some(message[index]);
+    }
+    match index - message.len() {
+        0 => Some((crc(message) & 0xFF) as u8),
+        1 => Some((crc(message) >> 8) as u8),
+        _ => None,
+    }
+}
+
+/// A level of the frame that carries a message, and 1 behind its last stop bit.
+pub fn frame_level(message: &[u8], place: usize) -> bool
+    ensures { result ≡ slice_index_or (frame_levels message.now) place true }
+{
+    match frame_byte(message, place / BYTE_LEVELS) {
+        Some(byte) => byte_level(byte, place % BYTE_LEVELS),
+        None => true,
+    }
+}
