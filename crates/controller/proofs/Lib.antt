@@ -1,3 +1,5 @@
 pub mod TxPages
 pub mod Control
 pub mod Outcomes
+pub mod Copies
+pub mod SendingLemmas

@@ -7,3 +7,6 @@ pub mod Receiver
 pub mod Settings
 pub mod View
 pub mod Bursts
+pub mod Transmission
+pub mod Marks
+pub mod Sending

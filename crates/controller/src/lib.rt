@@ -4,6 +4,7 @@
 mod bits;
 mod burst;
 mod chip;
+mod marks;
 mod page;
 mod receiver;
 mod refusal;
@@ -15,5 +16,6 @@ mod transmitter;
 pub mod tx_ctrl;
 
 pub use chip::Controller;
+pub use marks::Marks;
 pub use refusal::Refusal;
 pub use register::{Register, register_number};

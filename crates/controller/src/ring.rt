@@ -2,6 +2,7 @@ ghost use Rattle.std.specs.Prelude.{◌<◌};
 
 use crate::page::RxPage;
 
+mod fill;
 mod pages;
 
 /// The RX pages of a controller.

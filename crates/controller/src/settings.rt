@@ -1,8 +1,13 @@
 ghost use Rattle.std.specs.Prelude.{◌≡◌};
 ghost use Rattle.controller.specs.Settings.{settings};
+ghost use Rattle.model.specs.BitTime.{saves};
 ghost use Rattle.model.specs.Controller.{new_settings};
 
+use crate::bits::has;
 use frame::Filters;
+
+/// The bit of SETTING that has broken frames saved.
+const SAVE_BROKEN: u8 = 0x08;
 
 /// The registers that keep what is written.
 #[derive(Clone, Copy)]
@@ -37,5 +42,12 @@ impl Settings {
             div_hs_h: 0x01,
             int_mask: 0,
         }
+    }
+
+    /// SETTING says that broken frames are saved.
+    pub(crate) fn saves_broken(&self) -> bool
+        ensures { result ≡ saves (settings self.now) }
+    {
+        has(self.setting, SAVE_BROKEN)
     }
 }

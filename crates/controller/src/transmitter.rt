@@ -1,8 +1,11 @@
-ghost use Rattle.std.specs.Prelude.{◌<◌};
+ghost use Rattle.std.specs.Prelude.{◌≡◌, ◌<◌, true};
+ghost use Rattle.controller.specs.Sending.{sends_within};
 
 use crate::page::PAGE;
 
 mod control;
+mod pages;
+mod transmit;
 
 /// One of the two TX pages.
 #[derive(Clone, Copy)]
@@ -31,4 +34,6 @@ pub(crate) struct Transmitter {
     pub(crate) tx_cd: bool,
     pub(crate) tx_error: bool,
     ghost few: { conflicts < 16 },
+    // a sender stands at a level of its frame
+    ghost within: { sends_within state pages written ≡ true },
 }

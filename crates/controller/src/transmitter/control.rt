@@ -1,36 +1,14 @@
 ghost use Rattle.std.specs.Prelude.{◌≡◌};
-ghost use Rattle.controller.specs.Transmitter.{place_of, opposite, transmitter, putting};
+ghost use Rattle.controller.specs.Transmitter.{transmitter, putting};
 ghost use Rattle.model.specs.Controller.{is_free, new_transmitter};
 ghost use Rattle.model.specs.RegisterRule.{stores, zeroes_pointer, starts, clears_tx, aborts, tx_control, starts_too_long};
 
 use crate::bits::has;
 use crate::page::PAGE;
+use crate::transmitter::pages::LENGTH_AT;
 use crate::transmitter::{TransmitState, Transmitter, TxPage};
 use crate::tx_ctrl;
 use frame::MAX_DATA;
-
-/// Where the length byte of a message stands.
-const LENGTH_AT: usize = 2;
-
-impl TxPage {
-    fn place(self) -> usize
-        ensures { result ≡ place_of self }
-    {
-        match self {
-            TxPage::First => 0,
-            TxPage::Second => 1,
-        }
-    }
-
-    fn other(self) -> TxPage
-        ensures { result ≡ opposite self }
-    {
-        match self {
-            TxPage::First => TxPage::Second,
-            TxPage::Second => TxPage::First,
-        }
-    }
-}
 
 impl Transmitter {
     pub(crate) fn new() -> Transmitter
