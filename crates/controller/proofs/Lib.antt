@@ -3,3 +3,4 @@ pub mod Control
 pub mod Outcomes
 pub mod Copies
 pub mod SendingLemmas
+pub mod Endings

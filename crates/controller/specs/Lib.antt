@@ -10,3 +10,4 @@ pub mod Bursts
 pub mod Transmission
 pub mod Marks
 pub mod Sending
+pub mod Listening

@@ -8,6 +8,8 @@ use crate::ring::PageRing;
 use crate::rx_ctrl;
 use frame::FrameReader;
 
+mod listen;
+
 /// The receiving half of a controller.
 #[derive(Clone, Copy)]
 pub(crate) struct Receiver {
@@ -69,6 +71,13 @@ impl Receiver {
         ensures { result ≡ nat_le wait (receiver self.now).ones }
     {
         u16::from(wait) <= self.ones
+    }
+
+    /// The line was 1 for so many bit times.
+    pub(crate) fn has_waited(&self, wait: u16) -> bool
+        ensures { result ≡ nat_le wait (receiver self.now).ones }
+    {
+        wait <= self.ones
     }
 
     pub(crate) fn page_flag(&self) -> u8
