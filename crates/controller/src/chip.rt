@@ -8,6 +8,7 @@ use crate::transmitter::Transmitter;
 
 mod interrupt;
 mod read;
+mod tick;
 mod write;
 
 /// A controller on the line.
