@@ -11,3 +11,4 @@ pub mod Transmission
 pub mod Marks
 pub mod Sending
 pub mod Listening
+pub mod Look

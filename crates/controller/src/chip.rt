@@ -7,6 +7,7 @@ use crate::settings::Settings;
 use crate::transmitter::Transmitter;
 
 mod interrupt;
+mod look;
 mod read;
 mod tick;
 mod write;

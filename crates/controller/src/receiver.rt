@@ -9,6 +9,8 @@ use crate::rx_ctrl;
 use frame::FrameReader;
 
 mod listen;
+mod look;
+mod restore;
 
 /// The receiving half of a controller.
 #[derive(Clone, Copy)]

@@ -1,6 +1,6 @@
-ghost use Rattle.std.specs.Prelude.{◌≡◌, slice_index};
+ghost use Rattle.std.specs.Prelude.{◌≡◌, length, slice_index};
 ghost use Rattle.controller.specs.Ring.{page_of, page_ring};
-ghost use Rattle.model.specs.Controller.{read_page, new_ring};
+ghost use Rattle.model.specs.Controller.{page_size, read_page, new_ring};
 ghost use Rattle.model.specs.RegisterRule.{is_ready, switched, wiped};
 
 use crate::page::{PAGE, RxPage};
@@ -39,6 +39,14 @@ impl PageRing {
         ensures { result ≡ slice_index (read_page (page_ring self.now)).bytes address }
     {
         self.read_page().bytes[usize::from(address)]
+    }
+
+    /// The bytes of the read page.
+    pub(crate) fn read_bytes(&self) -> &[u8]
+        ensures is { result.now ≡ (read_page (page_ring self.now)).bytes }
+        ensures whole { length result.now ≡ page_size }
+    {
+        &self.read_page().bytes
     }
 
     /// The flag that was stored when the read page was last filled.
