@@ -1,7 +1,8 @@
--- Port writes and reads of a table, by what they do to the one controller that they name.
-use Rattle.std.proofs.Common.{◌≡◌, ℕ, ◌<◌, Bool, true, false, cond, not, eqb, leb, List, [], ◌++◌, length, get_or, take, drop, set, sym, refl, ap, ◌∙◌, add-zero, arith}
+-- Port writes, port reads and looks of a table, by what they do to the one controller that they name.
+use Rattle.std.proofs.Common.{◌≡◌, ℕ, ◌<◌, Bool, true, false, cond, not, eqb, leb, List, [], ◌++◌, length, get_or, take, drop, set, IfOk, Ok, Err, Result, sym, refl, ap, ◌∙◌, add-zero, arith}
 use Rattle.std.proofs.lemmas.List.{append-nil, take-append-drop, set-get_or, get_or-map, length-map}
 use Rattle.std.proofs.lemmas.Bool.Decides.{nat_tests}
+use Rattle.model.specs.Calls.{refuses_look, looked, look_count, buffer_looked}
 use Rattle.model.specs.Controller.{Controller as ModelController, Table, new}
 use Rattle.model.specs.Registers.{register_of}
 use Rattle.model.specs.RegisterRule.{writes_all, gives_all, leaves_all}
@@ -9,6 +10,7 @@ use Rattle.model.specs.Operations.{Operation, write, read, at, table_size, first
 use Rattle.controller.specs.declared.refusal.Refusal.{Refusal}
 use Rattle.controller.specs.declared.chip.Controller.{Controller}
 use Rattle.controller.specs.Bursts.{after_write, after_read, buffer_read}
+use Rattle.controller.specs.Look.{refuses_page, page_from, buffer_seen}
 use Rattle.controller.specs.Refusal.{number_of}
 use Rattle.controller.specs.View.{node, nodes}
 use Rattle.controller.proofs.Outcomes.{refused_leaves}
@@ -147,3 +149,40 @@ read_buffer cs k r n place buffer after d none is =
     is ∙ ap (λ x. buffer_read r n place x buffer) (sym (at-node k cs d none))
     ∙ ap (λ m. cond (eqb m 0) (put_into buffer place xs) buffer) (sym (then-others k cs others none))
     ∙ put_either buffer xs place number (eqb number 0)
+
+-- ---- look
+
+pub look_refused_first : (cs : List Controller) (k : ℕ) (e : Refusal) → number_of e ≡ first_of (refuses_place k (length cs)) → number_of e ≡ refuses_look k (nodes cs)
+unfolding refuses_look
+look_refused_first cs k e is = first_decides k cs (refuses_page (at (nodes cs) k).rx.ring) e is
+
+pub look_refusal : (cs : List Controller) (k : ℕ) (d : Controller) (n : ℕ) → NoneRefused k cs
+    → n ≡ first_of (refuses_page (node (get_or cs k d)).rx.ring) → n ≡ refuses_look k (nodes cs)
+unfolding refuses_look
+look_refusal cs k d n none is =
+    is ∙ ap (λ (x : ModelController). first_of (refuses_page x.rx.ring)) (sym (at-node k cs d none))
+    ∙ sym (then-others k cs (refuses_page (at (nodes cs) k).rx.ring) none)
+
+-- a controller that is left as it was leaves the table
+pub look_leaves : (cs : List Controller) (k : ℕ) (d y : Controller) → NoneRefused k cs → node y ≡ node (get_or cs k d) → nodes (set cs k y) ≡ nodes cs
+look_leaves cs k d y none is = view_at node cs k y (at (nodes cs) k) (is ∙ sym (at-node k cs d none)) ∙ set-get_or (nodes cs) k new
+
+pub look_refused_buffer : (t : Table) (k place : ℕ) (buffer : List ℕ) (e : Refusal) → number_of e ≡ refuses_look k t → buffer ≡ buffer_looked k place t buffer
+unfolding buffer_looked
+look_refused_buffer t k place buffer e is = refused_leaves e (refuses_look k t) (put_into buffer 0 (looked k place t (length buffer))) buffer is
+
+pub look_buffer : (cs : List Controller) (k place : ℕ) (buffer after : List ℕ) (d : Controller) → NoneRefused k cs
+    → after ≡ buffer_seen place (node (get_or cs k d)).rx.ring buffer → after ≡ buffer_looked k place (nodes cs) buffer
+unfolding buffer_seen buffer_looked refuses_look looked page_from
+look_buffer cs k place buffer after d none is =
+    let t = nodes cs in
+    is ∙ ap (λ (x : ModelController). buffer_seen place x.rx.ring buffer) (sym (at-node k cs d none))
+    ∙ ap (λ m. cond (eqb m 0) (put_into buffer 0 (looked k place t (length buffer))) buffer)
+    (sym (then-others k cs (refuses_page (at t k).rx.ring) none))
+
+pub look_counted : (cs : List Controller) (k place buffer : ℕ) (d : Controller) (r : Result ℕ Refusal) → NoneRefused k cs
+    → IfOk r (λ n. n ≡ length (page_from place (node (get_or cs k d)).rx.ring buffer)) → IfOk r (λ n. n ≡ look_count k place (nodes cs) buffer)
+unfolding look_count looked page_from
+look_counted cs k place buffer d (Ok n) none is =
+    is ∙ ap (λ (x : ModelController). length (page_from place x.rx.ring buffer)) (sym (at-node k cs d none))
+look_counted cs k place buffer d (Err e) none is = tt

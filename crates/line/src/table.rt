@@ -7,10 +7,10 @@ ghost use Rattle.model.specs.Operations.{table_size, first_of, refuses_place};
 use controller::{Controller, Refusal};
 
 /// The most controllers on one line.
-const MAX_CONTROLLERS: usize = 16;
+pub(crate) const MAX_CONTROLLERS: usize = 16;
 
 /// A table has 1 to 16 places.
-fn check_size(places: usize) -> Result<(), Refusal>
+pub(crate) fn check_size(places: usize) -> Result<(), Refusal>
     ensures { refused_as result ≡ (if table_size places then 0 else 1) }
 {
     if places == 0 || places > MAX_CONTROLLERS {

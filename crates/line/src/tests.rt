@@ -3,6 +3,8 @@ use controller::{Controller, Refusal, Register, register_number, rx_ctrl, tx_ctr
 use std::process::Abort;
 use std::test::Fail;
 
+mod looks;
+
 fn refused_write(controller: usize, register: u8, bytes: &[u8]) -> Option<Refusal> {
     let mut table = [Controller::new(); 2];
     port_write(&mut table, controller, register, bytes).err()
