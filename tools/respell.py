@@ -34,8 +34,8 @@ def files():
 
 
 def defined():
-    """Own names, and the functions among them; goals that the check names are no own names."""
-    own, functions, goals = set(), set(), set()
+    """Own names, and the functions and the fields among them; goals that the check names are no own names."""
+    own, functions, fields, goals = set(), set(), set(), set()
     for path in files():
         if path.suffix != ".antt":
             continue
@@ -48,9 +48,11 @@ def defined():
                 goals.add(name)
             else:
                 own.add(name)
-                if "-" not in name and line[0] != " " and path.parent.name == "specs":
+                if line[0] == " ":
+                    fields.add(name)
+                elif "-" not in name and path.parent.name == "specs":
                     functions.add(snake(name))
-    return own - goals, functions
+    return own - goals, functions, fields - goals
 
 
 def snake(word):
@@ -61,9 +63,11 @@ def camel(word):
     return "".join(p[:1].upper() + p[1:] for p in word.split("-"))
 
 
-def respelled(name, words):
+def respelled(name, words, fields):
     if name in CHOSEN:
         return CHOSEN[name]
+    if name in fields:
+        return "_".join(snake(p) for p in name.split("-"))
     if re.fullmatch(r"[A-Z][A-Za-z0-9]*(-[A-Za-z0-9]+)+", name):
         return camel(name)
     first, *more = [snake(p) if CAMEL.fullmatch(p) else p for p in name.split("-")]
@@ -74,9 +78,9 @@ def respelled(name, words):
 
 
 def main(argv):
-    own, functions = defined()
+    own, functions, fields = defined()
     words = (functions | STD) - PLAIN
-    table = {n: respelled(n, words) for n in own}
+    table = {n: respelled(n, words, fields) for n in own}
     table = {old: new for old, new in table.items() if old != new}
     bare = re.compile(NAME)
 

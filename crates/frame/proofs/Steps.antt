@@ -73,11 +73,11 @@ heard-on ls i r p next h e is = sym (level_heard ls i r (goes (reading next)) h 
 
 pub heard-end : (ls : List Bool) (i : ℕ) (r : Reading) (p : Progress) (next : FrameReader) → i < length ls
     → reads (get_or ls i false) r ≡ stepped p next → (p ≡ Unfinished → ⊥) → heard r (drop i ls) ≡ heard_as p next (length ls - (i + 1))
-heard-end ls i r p next h e not = level_heard ls i r (stepped p next) h e ∙ ended-as p (drop (i + 1) ls) not ∙ ap (heard_as p next) (length-drop (i + 1) ls)
+heard-end ls i r p next h e not = level_heard ls i r (stepped p next) h e ∙ ended_as p (drop (i + 1) ls) not ∙ ap (heard_as p next) (length-drop (i + 1) ls)
   where
-    ended-as : (q : Progress) (rest : List Bool) → (q ≡ Unfinished → ⊥) → heard_on rest (stepped q next) ≡ heard_as q next (length rest)
-    ended-as Unfinished rest stop = absurd (stop refl)
-    ended-as Right [] stop = refl
-    ended-as Right (l ∷ rest) stop = refl
-    ended-as Broken [] stop = refl
-    ended-as Broken (l ∷ rest) stop = refl
+    ended_as : (q : Progress) (rest : List Bool) → (q ≡ Unfinished → ⊥) → heard_on rest (stepped q next) ≡ heard_as q next (length rest)
+    ended_as Unfinished rest stop = absurd (stop refl)
+    ended_as Right [] stop = refl
+    ended_as Right (l ∷ rest) stop = refl
+    ended_as Broken [] stop = refl
+    ended_as Broken (l ∷ rest) stop = refl

@@ -21,10 +21,10 @@ pub view_next : {X Y : Type 0} (v : X → Y) (f : Y → Y) (xs ys : List X) (i :
 view_next v f xs ys i x lt len so_far =
     let zs = map v xs in
     let front = map f (take i zs) in
-    let in-zs : i < length zs = omega (arith, length-map xs v) in
+    let in_zs : i < length zs = omega (arith, length-map xs v) in
     let short : length front ≡ i = length-map (take i zs) f ∙ omega (arith, length-take i zs) in
     sym (get_or-map v ys i x (v x) (omega arith))
-    ∙ ap (λ l. get_or l i (v x)) (so_far ∙ ap (λ l. front ++ l) (drop_more zs i (v x) in-zs))
+    ∙ ap (λ l. get_or l i (v x)) (so_far ∙ ap (λ l. front ++ l) (drop_more zs i (v x) in_zs))
     ∙ get_or_at front (get_or zs i (v x)) (drop (i + 1) zs) (v x) i short
     ∙ get_or-map v xs i x (v x) lt
 

@@ -12,7 +12,7 @@ record GoesBefore (u v : List Bool) : Type 0 where
   place : ℕ
   in_u : place < length u
   same_before : take place u ≡ take place v
-  has-zero : get_or u place true ≡ false
+  has_zero : get_or u place true ≡ false
   has_one : get_or v place false ≡ true
 
 -- the last bit is the highest of the number
@@ -33,7 +33,7 @@ behind b g =
       place = suc g.place;
       in_u = omega (arith, g.in_u);
       same_before = ap (λ xs. b ∷ xs) g.same_before;
-      has-zero = g.has-zero;
+      has_zero = g.has_zero;
       has_one = g.has_one;
     }
 
@@ -42,7 +42,7 @@ goes_before [] [] l h = absurd (omega arith)
 goes_before [] (b ∷ v) l h = absurd (omega arith)
 goes_before (a ∷ u) [] l h = absurd (omega arith)
 goes_before (false ∷ u) (true ∷ v) l h =
-    record { place = 0; in_u = omega arith; same_before = refl; has-zero = refl; has_one = refl }
+    record { place = 0; in_u = omega arith; same_before = refl; has_zero = refl; has_one = refl }
 goes_before (true ∷ u) (false ∷ v) l h =
     let same : 2 ^ length u ≡ 2 ^ length v = ap (λ n. 2 ^ n) (suc_inj l) in
     absurd (omega (arith, number-reverse_cons true u, number-reverse_cons false v, number-reverse_lt v))
@@ -62,7 +62,7 @@ lower_keeps_line a b h =
       place = g.place;
       in_byte = g.in_u;
       same_before = g.same_before;
-      drives-zero = g.has-zero;
+      drives_zero = g.has_zero;
       against_one = g.has_one;
     }
 

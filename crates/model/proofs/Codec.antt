@@ -222,4 +222,4 @@ read_was_sent ls xs e long =
     )
 
 pub codec : Codec
-codec = record { starts-idle = λ ls. refl; sent_is_read = sent_is_read; read_was_sent = read_was_sent }
+codec = record { starts_idle = λ ls. refl; sent_is_read = sent_is_read; read_was_sent = read_was_sent }

@@ -7,5 +7,5 @@ pub record KeepsLine (winner other : ℕ) : Type 0 where
   pub place : ℕ
   pub in_byte : place < 8
   pub same_before : take place (bits 8 winner) ≡ take place (bits 8 other)
-  pub drives-zero : slice_index_or (bits 8 winner) place true ≡ false
+  pub drives_zero : slice_index_or (bits 8 winner) place true ≡ false
   pub against_one : slice_index_or (bits 8 other) place false ≡ true

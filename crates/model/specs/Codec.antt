@@ -4,7 +4,7 @@ use Rattle.model.specs.Frames.{Message, framed, frame_levels}
 use Rattle.model.specs.Reading.{Reading, between, Heard, unfinished, right, heard, opened}
 
 -- Where the reading of a frame starts. A hunting receiver that was idle passes over ones and takes a 0 for a
--- start bit, as one between bytes does that has read none (starts-idle, below).
+-- start bit, as one between bytes does that has read none (starts_idle, below).
 abbrev pub after_idle : Reading
 after_idle = between []
 
@@ -25,7 +25,7 @@ pub record FrameOf (m bytes : List ℕ) (ls : List Bool) : Type 0 where
 
 -- both ways
 pub record Codec : Type 0 where
-  pub starts-idle : (ls : List Bool) → heard after_idle (false ∷ ls) ≡ heard (opened false) ls
+  pub starts_idle : (ls : List Bool) → heard after_idle (false ∷ ls) ≡ heard (opened false) ls
   pub sent_is_read : (m : List ℕ) → Message m → ReadsBack m
   -- levels without gaps are ten for each byte
   pub read_was_sent : (ls : List Bool) (bytes : List ℕ) → heard after_idle ls ≡ right bytes 0

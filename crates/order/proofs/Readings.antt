@@ -28,6 +28,6 @@ never_reads m ls (Broken bytes n) h only = tt
 never_reads m ls Unfinished h only = tt
 
 -- the levels that are heard, by way of those that were sent
-pub pulled_frame : (m : List ℕ) (pulls heard-levels given sent : List Bool) → heard-levels ≡ pulled_low given pulls → given ≡ sent
-    → sent ≡ frame_levels m → heard-levels ≡ pulled_low (frame_levels m) pulls
-pulled_frame m pulls heard-levels given sent e is frame = e ∙ ap (λ k. pulled_low k pulls) (is ∙ frame)
+pub pulled_frame : (m : List ℕ) (pulls heard_levels given sent : List Bool) → heard_levels ≡ pulled_low given pulls → given ≡ sent
+    → sent ≡ frame_levels m → heard_levels ≡ pulled_low (frame_levels m) pulls
+pulled_frame m pulls heard_levels given sent e is frame = e ∙ ap (λ k. pulled_low k pulls) (is ∙ frame)

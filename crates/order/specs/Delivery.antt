@@ -31,7 +31,7 @@ ReadSo d = ReadAs (length (vec_items d.levels)) (heard after_idle (vec_items d.l
 pub record HeardBy (ls : List Bool) (d : Delivery) : Type 0 where
   pub same : vec_items d.levels ≡ ls
   pub read_so : ReadSo d
-  pub reads-right : (m : List ℕ) → Message m → ls ≡ frame_levels m → ReadsRight m ls d.reading
+  pub reads_right : (m : List ℕ) → Message m → ls ≡ frame_levels m → ReadsRight m ls d.reading
   pub never_other : (m : List ℕ) → Message m → (start : ℕ) (ps : List Bool) → ShortBurst start ps
       → ls ≡ pulled_low (frame_levels m) ps → NeverOther m d.reading
 

@@ -14,7 +14,7 @@ returns c =
     record {
       same = refl;
       read_so = read;
-      reads-right = λ m ok is. right_reads m ls x read (ap (heard after_idle) is ∙ (says.codec.sent_is_read m ok).at_last);
+      reads_right = λ m ok is. right_reads m ls x read (ap (heard after_idle) is ∙ (says.codec.sent_is_read m ok).at_last);
       never_other = λ m ok start ps burst is. never_reads m ls x read
           (λ bytes left e. says.disturbed m ok start ps burst bytes left (ap (heard after_idle) (sym is) ∙ e));
     }
