@@ -4,22 +4,22 @@ use Rattle.controller.specs.declared.transmitter.transmit.Transmission.{Transmis
 use Rattle.controller.specs.declared.transmitter.transmit.Transmission.TheVariants.{Quiet, DrewBack, GaveUp, Sent}
 
 -- its sender drew back
-abbrev pub drew_back : Transmission → Bool
-drew_back Quiet = false
-drew_back DrewBack = true
-drew_back GaveUp = true
-drew_back Sent = false
+abbrev pub is_drawn_back : Transmission → Bool
+is_drawn_back Quiet = false
+is_drawn_back DrewBack = true
+is_drawn_back GaveUp = true
+is_drawn_back Sent = false
 
 -- for the last time
-abbrev pub gave_up : Transmission → Bool
-gave_up Quiet = false
-gave_up DrewBack = false
-gave_up GaveUp = true
-gave_up Sent = false
+abbrev pub is_given_up : Transmission → Bool
+is_given_up Quiet = false
+is_given_up DrewBack = false
+is_given_up GaveUp = true
+is_given_up Sent = false
 
 -- it was sent
-abbrev pub was_sent : Transmission → Bool
-was_sent Quiet = false
-was_sent DrewBack = false
-was_sent GaveUp = false
-was_sent Sent = true
+abbrev pub is_sent : Transmission → Bool
+is_sent Quiet = false
+is_sent DrewBack = false
+is_sent GaveUp = false
+is_sent Sent = true

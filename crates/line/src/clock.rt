@@ -24,8 +24,8 @@ fn all_drive_one(table: &[Controller]) -> bool
     true
 }
 
-#[tactic(auto, unfolding(model::specs::BitTime::line_level))]
 /// The level of the line: 0 if something outside pulls or a controller drives 0.
+#[tactic(auto, unfolding(model::specs::BitTime::line_level))]
 fn line_level(table: &[Controller], pulled: bool) -> bool
     ensures { result ≡ line_level pulled (nodes table.now) }
 {

@@ -28,8 +28,8 @@ impl PageRing {
         copy_padded(&mut page.bytes, bytes);
     }
 
-    #[tactic(auto, unfolding(model::specs::BitTime::filled))]
     /// Fills the fill page and makes it ready, if not too many are: whether it did.
+    #[tactic(auto, unfolding(model::specs::BitTime::filled))]
     pub(crate) fn fill(&mut self, bytes: &[u8], flag: u8) -> bool
         ensures after { page_ring self.new ≡ filled (room (page_ring self.old)) bytes.now flag (page_ring self.old) }
         ensures made { result ≡ room (page_ring self.old) }

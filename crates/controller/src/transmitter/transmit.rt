@@ -1,7 +1,7 @@
 #![tactic(auto, unfolding(model::specs::BitTime::drives, model::specs::BitTime::next_level, model::specs::BitTime::in_source, model::specs::BitTime::in_last, model::specs::BitTime::draws_back, model::specs::BitTime::gives_up, model::specs::BitTime::finishes, model::specs::BitTime::transmits))]
 
 ghost use Rattle.std.specs.Prelude.{◌≡◌, ◌+◌, ◌<◌, true, length, if◌then◌else◌, slice_index_or};
-ghost use Rattle.controller.specs.Transmission.{drew_back, gave_up, was_sent};
+ghost use Rattle.controller.specs.Transmission.{is_drawn_back, is_given_up, is_sent};
 ghost use Rattle.controller.specs.Transmitter.{transmitter};
 ghost use Rattle.model.specs.BitTime.{with_state, frame_of, drives, draws_back, gives_up, finishes, transmits};
 ghost use Rattle.model.specs.Controller.{sending, is_waiting};
@@ -29,19 +29,19 @@ pub(crate) enum Transmission {
 
 impl Transmission {
     pub(crate) fn drew_back(self) -> bool
-        ensures { result ≡ drew_back self }
+        ensures { result ≡ is_drawn_back self }
     {
         matches!(self, Transmission::DrewBack | Transmission::GaveUp)
     }
 
     pub(crate) fn gave_up(self) -> bool
-        ensures { result ≡ gave_up self }
+        ensures { result ≡ is_given_up self }
     {
         matches!(self, Transmission::GaveUp)
     }
 
     pub(crate) fn was_sent(self) -> bool
-        ensures { result ≡ was_sent self }
+        ensures { result ≡ is_sent self }
     {
         matches!(self, Transmission::Sent)
     }
@@ -105,9 +105,9 @@ impl Transmitter {
     /// One bit time in which the line had this level: what became of the page that is being sent.
     pub(crate) fn transmit(&mut self, level: bool) -> Transmission
         ensures after { transmitter self.new ≡ transmits level (transmitter self.old) }
-        ensures back { drew_back result ≡ draws_back level (transmitter self.old) }
-        ensures up { gave_up result ≡ gives_up level (transmitter self.old) }
-        ensures sent { was_sent result ≡ finishes level (transmitter self.old) }
+        ensures back { is_drawn_back result ≡ draws_back level (transmitter self.old) }
+        ensures up { is_given_up result ≡ gives_up level (transmitter self.old) }
+        ensures sent { is_sent result ≡ finishes level (transmitter self.old) }
     {
         let TransmitState::Sending { driven } = self.state else {
             return Transmission::Quiet;
