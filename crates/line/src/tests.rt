@@ -2,6 +2,7 @@ use super::*;
 use controller::{Controller, Refusal, Register, register_number, rx_ctrl, tx_ctrl};
 use std::test::Fail;
 
+mod frames;
 mod looks;
 
 fn refused_write(controller: usize, register: u8, bytes: &[u8]) -> Option<Refusal> {
