@@ -1,4 +1,4 @@
-pub mod Table
-pub mod Pushed
-pub mod Buffer
+pub mod Reversed
+pub mod Fed
 pub mod Steps
+pub mod Placed

@@ -1,12 +1,11 @@
 -- What the code answers for levels that are read.
-use Rattle.std.specs.Prelude.{◌≡◌, ℕ, ◌-◌, ◌≤◌, vec_items}
+use Rattle.std.specs.Prelude.{◌≡◌, ℕ, ◌-◌, ◌≤◌, Some, None, Option, vec_items}
 use Rattle.model.specs.Codec.{Unfinished as NotEnded}
-use Rattle.model.specs.Reading.{Heard, broken, right}
+use Rattle.model.specs.Reading.{Heard}
 use Rattle.frame.specs.declared.reader.read.Reading.{Reading}
-use Rattle.frame.specs.declared.reader.read.Reading.TheVariants.{Right, Broken, Unfinished}
+use Rattle.frame.specs.Reader.{ended_as}
 
 -- how a frame ended, with its bytes and how many of all the levels were heard up to its end
-abbrev pub ReadAs : ℕ → Heard → Reading → Type 0
-ReadAs all h (Right bytes n) = (h ≡ right (vec_items bytes) (all - n)) × (n ≤ all)
-ReadAs all h (Broken bytes n) = (h ≡ broken (vec_items bytes) (all - n)) × (n ≤ all)
-ReadAs all h Unfinished = NotEnded h
+abbrev pub ReadAs : ℕ → Heard → Option Reading → Type 0
+ReadAs all h (Some r) = (h ≡ ended_as r.ending (vec_items r.bytes) (all - r.levels)) × (r.levels ≤ all)
+ReadAs all h None = NotEnded h

@@ -1,26 +1,15 @@
 ghost use Rattle.std.specs.Prelude.{◌≡◌};
 ghost use Rattle.model.specs.Bits.{reversed};
-ghost use Rattle.frame.specs.Arbitration.{Kept, Decided};
+ghost use Rattle.frame.specs.Arbitration.{Decided};
 
-/// The standard library's reversal of bits, as the rules have it.
-fn mirrored(byte: u8) -> u8
-    ensures { result ≡ reversed byte }
-{
-    byte.reverse_bits()
-}
+use std::cmp::Ordering;
 
 /// A source byte with its eight bits in opposite order.
+#[tactic(auto, using(crate::proofs::Reversed::reverse_bits_reversed))]
 pub fn reversed_source(source: u8) -> u8
     ensures { result ≡ reversed source }
 {
-    mirrored(source)
-}
-
-/// Whether one source byte keeps the line against another: a 0 is stronger than a 1, and bits are sent lowest first.
-fn keeps_line(source: u8, other: u8) -> bool
-    ensures { Kept source other result }
-{
-    reversed_source(source) < reversed_source(other)
+    source.reverse_bits()
 }
 
 /// Who keeps the line where two senders begin together.
@@ -32,15 +21,14 @@ pub enum Arbitration {
     Tie,
 }
 
-/// Which of two source bytes keeps the line.
+/// Which of two source bytes keeps the line: a 0 is stronger than a 1, and bits are sent lowest first.
+#[tactic(auto, using(crate::proofs::Reversed::lower_goes_first, crate::proofs::Reversed::higher_goes_second, crate::proofs::Reversed::same_source))]
 pub fn arbitrate(first: u8, second: u8) -> Arbitration
     ensures { Decided first second result }
 {
-    if keeps_line(first, second) {
-        Arbitration::First
-    } else if keeps_line(second, first) {
-        Arbitration::Second
-    } else {
-        Arbitration::Tie
+    match reversed_source(first).cmp(&reversed_source(second)) {
+        Ordering::Less => Arbitration::First,
+        Ordering::Greater => Arbitration::Second,
+        Ordering::Equal => Arbitration::Tie,
     }
 }

@@ -1,25 +1,33 @@
 ghost use Rattle.std.specs.Prelude.{◌≡◌};
 ghost use Rattle.model.specs.Bits.{bits};
-ghost use Rattle.model.specs.Crc.{crc_of, fed_all};
+ghost use Rattle.model.specs.Crc.{crc_of, fed_all, sent_bits};
 
 /// The register after the eight bits of a byte.
 fn after_byte(register: u16, byte: u8) -> u16
     ensures { result ≡ fed_all register (bits 8 byte) }
 {
-    let low = (register & 0xFF) as u8;
-    (register >> 8) ^ TABLE[usize::from(low ^ byte)]
+    let [low, high] = register.to_le_bytes();
+    u16::from(high) ^ TABLE[usize::from(low ^ byte)]
+}
+
+/// The register after the bits of bytes, one byte after the other.
+fn after_bytes(register: u16, bytes: &[u8]) -> u16
+    ensures { result ≡ fed_all register (sent_bits bytes.now) }
+{
+    bytes
+        .iter()
+        .fold(register, |register, byte| after_byte(register, *byte))
 }
 
 /// The CRC of a message, as the Modbus serial line standard has it.
 pub fn crc(bytes: &[u8]) -> u16
     ensures { result ≡ crc_of bytes.now }
 {
-    let mut register = 0xFFFF;
-    for byte in bytes {
-        register = after_byte(register, *byte);
-    }
-    register
+    after_bytes(ALL_ONES, bytes)
 }
+
+/// The register before the first bit.
+const ALL_ONES: u16 = 0xFFFF;
 
 /// What each byte makes of a register at 0.
 #[rattlefmt::skip]

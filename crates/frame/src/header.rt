@@ -1,7 +1,10 @@
 ghost use Rattle.frame.specs.Header.{Splits};
 
+/// The bytes of a header.
+pub const HEADER_BYTES: usize = 3;
+
 /// What a message begins with.
-#[derive(Clone, Copy)]
+#[derive(Clone, Copy, PartialEq, Eq, Debug)]
 pub struct Header {
     pub source: u8,
     pub destination: u8,

@@ -23,13 +23,9 @@ fn byte_level(byte: u8, place: usize) -> bool
 fn frame_byte(message: &[u8], index: usize) -> Option<u8>
     ensures { ByteAt (framed message.now) index result }
 {
-    if index < message.len() {
-        return Some(message[index]);
-    }
-    match index - message.len() {
-        0 => Some((crc(message) & 0xFF) as u8),
-        1 => Some((crc(message) >> 8) as u8),
-        _ => None,
+    match index.checked_sub(message.len()) {
+        None => message.get(index).copied(),
+        Some(behind) => crc(message).to_le_bytes().get(behind).copied(),
     }
 }
 

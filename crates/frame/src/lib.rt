@@ -12,10 +12,10 @@ mod reader;
 pub use arbitration::{Arbitration, arbitrate, reversed_source};
 pub use checksum::crc;
 pub use filter::Filters;
-pub use header::Header;
+pub use header::{HEADER_BYTES, Header};
 pub use level::{BYTE_LEVELS, frame_level};
-pub use message::{MAX_DATA, MessageError, frame_levels};
-pub use reader::{FrameReader, Progress, Reading, read_frame};
+pub use message::{CRC_BYTES, MAX_DATA, MessageError, frame_levels};
+pub use reader::{Ending, FrameReader, Reading, read_frame};
 
 #[cfg(test)]
 mod tests;

@@ -1,17 +1,20 @@
-ghost use Rattle.std.specs.Prelude.{◌≡◌, [], ◌∷◌, ◌++◌, Some, MatchResult, OnOk};
+ghost use Rattle.std.specs.Prelude.{◌≡◌, ◌+◌, ◌*◌, true, length, map, slice_index_or, Some, IfOk, MatchResult};
+ghost use Rattle.std.specs.List.{range_with_len};
 ghost use Rattle.frame.specs.Message.{Fault, says};
 ghost use Rattle.frame.specs.declared.message.MessageError.TheVariants.{NoMemory};
 ghost use Rattle.model.specs.Frames.{Message, frame_levels};
-ghost use Rattle.model.specs.Levels.{levels as levels_of};
 
-use crate::checksum::crc;
-use crate::header::Header;
+use crate::header::{HEADER_BYTES, Header};
+use crate::level::{BYTE_LEVELS, frame_level};
 use std::alloc::{AllocError, Global};
 use std::error::Error;
 use std::fmt;
 
 /// The most data bytes that a frame carries.
 pub const MAX_DATA: u8 = 253;
+
+/// The bytes of a CRC.
+pub const CRC_BYTES: usize = 2;
 
 /// Why bytes have no frame; the first reason that fits.
 #[derive(Clone, Copy, PartialEq, Eq, Debug)]
@@ -64,37 +67,14 @@ fn check(message: &[u8]) -> Result<(), MessageError>
     Ok(())
 }
 
-/// The levels of a byte, behind those that are there: start bit, lowest bit first, stop bit.
-fn push_byte(levels: &mut Vec<bool>, byte: u8) -> Result<(), AllocError>
-    ensures { OnOk result (levels.new.items ≡ levels.old.items ++ levels_of (byte ∷ [])) }
+/// The levels of a message and its CRC, each by its place.
+fn levels_of_frame(heap: Global, message: &[u8]) -> Result<Vec<bool>, AllocError>
+    requires { Message message.now }
+    ensures { IfOk result (λ v. v.items ≡ map (λ p. slice_index_or (frame_levels message.now) p true) (range_with_len 0 (10 * (length message.now + 2)))) }
 {
-    levels.push(false)?;
-    let mut rest = byte;
-    for _bit in 0..8u8 {
-        levels.push(rest % 2 == 1)?;
-        rest /= 2;
-    }
-    levels.push(true)?;
-    Ok(())
-}
-
-/// The levels of bytes, behind those that are there.
-fn push_bytes(levels: &mut Vec<bool>, bytes: &[u8]) -> Result<(), AllocError>
-    ensures { OnOk result (levels.new.items ≡ levels.old.items ++ levels_of bytes.now) }
-{
-    for byte in bytes {
-        push_byte(levels, *byte)?;
-    }
-    Ok(())
-}
-
-/// The levels of a message and its CRC, low byte first, behind those that are there.
-fn push_frame(levels: &mut Vec<bool>, message: &[u8]) -> Result<(), AllocError>
-    ensures { OnOk result (levels.new.items ≡ levels.old.items ++ frame_levels message.now) }
-{
-    push_bytes(levels, message)?;
-    push_bytes(levels, &crc(message).to_le_bytes())?;
-    Ok(())
+    (0..BYTE_LEVELS * (message.len() + CRC_BYTES))
+        .map(|place| frame_level(message, place))
+        .collect(heap)
 }
 
 /// The levels of the frame that carries a message.
@@ -102,7 +82,5 @@ pub fn frame_levels(heap: Global, message: &[u8]) -> Result<Vec<bool>, MessageEr
     ensures { MatchResult result (λ v. Message message.now × (v.items ≡ frame_levels message.now)) (Fault message.now) }
 {
     check(message)?;
-    let mut levels = Vec::new(heap);
-    push_frame(&mut levels, message)?;
-    Ok(levels)
+    Ok(levels_of_frame(heap, message)?)
 }

@@ -1,15 +1,24 @@
 ghost use Rattle.std.specs.Prelude.{◌≡◌, true, length};
 ghost use Rattle.frame.specs.Phase.{sound};
 
+use crate::header::HEADER_BYTES;
+use crate::message::{CRC_BYTES, MAX_DATA};
+
 mod hear;
 mod open;
 mod read;
 
-pub use hear::Progress;
 pub use read::{Reading, read_frame};
 
-/// The bytes of the longest frame: header, 253 data bytes, CRC.
-const LONGEST: usize = 258;
+/// The bytes of the longest frame.
+const LONGEST: usize = HEADER_BYTES + MAX_DATA as usize + CRC_BYTES;
+
+/// How a frame has ended.
+#[derive(Clone, Copy, PartialEq, Eq, Debug)]
+pub enum Ending {
+    Right,
+    Broken,
+}
 
 /// Where a receiver stands in a frame.
 #[derive(Clone, Copy)]

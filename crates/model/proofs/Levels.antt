@@ -1,8 +1,9 @@
 -- Levels of bytes.
-use Rattle.std.proofs.Common.{◌≡◌, ℕ, zero, suc, ◌+◌, ◌*◌, ◌<◌, ◌≤◌, true, false, List, [], ◌∷◌, ◌++◌, length, get_or, refl, ap, ◌∙◌, arith, length-append}
+use Rattle.std.proofs.Common.{◌≡◌, ℕ, zero, suc, ◌+◌, ◌*◌, ◌/◌, ◌%◌, ◌<◌, ◌≤◌, true, false, List, [], ◌∷◌, ◌++◌, length, get_or, refl, ap, ◌∙◌, arith, length-append}
 use lib.ListN.{get_or-eq_default}
 use Rattle.std.proofs.lemmas.List.{get_or_append_left, get_or-append-add}
 use Rattle.model.specs.Bits.{bits}
+use Rattle.model.specs.Crc.{crc_of}
 use Rattle.model.specs.Levels.{Bytes, levels}
 use Rattle.model.specs.Frames.{length_byte, Message, framed, frame_levels}
 
@@ -24,8 +25,12 @@ pub length-levels : (xs : List ℕ) → length (levels xs) ≡ 10 * length xs
 length-levels [] = refl
 length-levels (x ∷ xs) = omega (arith, length-levels xs)
 
+-- and for the two bytes of its CRC
+pub length_frame_levels : (xs : List ℕ) → length (frame_levels xs) ≡ 10 * (length xs + 2)
+length_frame_levels xs = length-levels (framed xs) ∙ ap (λ n. 10 * n) (length-append xs (crc_of xs % 256 ∷ crc_of xs / 256 ∷ []))
+
 pub length-frame : (xs : List ℕ) → Message xs → length (frame_levels xs) ≡ 10 * (length_byte xs + 5)
-length-frame xs m = length-levels (framed xs) ∙ ap (λ n. 10 * n) (simp length-append (omega (arith, m.whole)))
+length-frame xs m = omega (arith, length_frame_levels xs, m.whole)
 
 -- ---- one level
 

@@ -1,53 +1,48 @@
-ghost use Rattle.std.specs.Prelude.{◌≡◌, ◌≤◌, true, [], ◌∷◌, ◌++◌, length};
+ghost use Rattle.std.specs.Prelude.{◌≡◌, ◌+◌, ◌≤◌, true, [], ◌∷◌, ◌++◌, length, slice_set, IfSome};
 ghost use Rattle.frame.specs.Phase.{goes_on};
-ghost use Rattle.frame.specs.Reader.{bytes_of, reading, verdict, stepped, ended};
+ghost use Rattle.frame.specs.Reader.{bytes_of, reading, verdict, stepped};
+ghost use Rattle.frame.specs.declared.reader.Phase.TheVariants.{Hunting};
 ghost use Rattle.model.specs.Codec.{after_idle};
 ghost use Rattle.model.specs.Frames.{length_byte};
 ghost use Rattle.model.specs.Reading.{hunting, crc_right, judged, reads};
 
 use crate::checksum::crc;
-use crate::message::MAX_DATA;
-use crate::reader::{FrameReader, LONGEST, Phase};
-
-/// What has become of a frame that is read.
-#[derive(Clone, Copy, PartialEq, Eq, Debug)]
-pub enum Progress {
-    Unfinished,
-    Right,
-    Broken,
-}
+use crate::header::HEADER_BYTES;
+use crate::message::{CRC_BYTES, MAX_DATA};
+use crate::reader::{Ending, FrameReader, LONGEST, Phase};
 
 /// Whether the two last bytes are the CRC of those before, low byte first.
+#[tactic(auto, unfolding(model::specs::Reading::crc_right))]
 fn crc_matches(frame: &[u8]) -> bool
     requires { 2 ≤ length frame.now }
     ensures { result ≡ crc_right frame.now }
 {
-    let end = frame.len() - 2;
-    crc(&frame[0..end]) == u16::from(frame[end]) + u16::from(frame[end + 1]) * 256
+    let [message @ .., low, high] = frame else {
+        return false;
+    };
+    crc(message) == u16::from_le_bytes([*low, *high])
 }
 
-/// Judges the bytes read so far at a stop bit: the stop bit, then the length, then the CRC.
-fn judge(bytes: &[u8], stop: bool) -> Progress
+/// Judges the bytes read so far at a stop bit: the stop bit, then the length, then the CRC. Nothing while the frame goes on.
+fn judge(bytes: &[u8], stop: bool) -> Option<Ending>
     ensures { judged stop bytes.now ≡ verdict result bytes.now }
 {
     if !stop {
-        return Progress::Broken;
+        return Some(Ending::Broken);
     }
-    let count = bytes.len();
-    if count < 3 {
-        return Progress::Unfinished;
+    let [_, _, length, ..] = bytes else {
+        return None;
+    };
+    if bytes.len() == HEADER_BYTES && *length > MAX_DATA {
+        return Some(Ending::Broken);
     }
-    let data = bytes[2];
-    if count == 3 && data > MAX_DATA {
-        return Progress::Broken;
-    }
-    if count != usize::from(data) + 5 {
-        return Progress::Unfinished;
+    if bytes.len() != HEADER_BYTES + usize::from(*length) + CRC_BYTES {
+        return None;
     }
     if crc_matches(bytes) {
-        Progress::Right
+        Some(Ending::Right)
     } else {
-        Progress::Broken
+        Some(Ending::Broken)
     }
 }
 
@@ -89,45 +84,54 @@ impl FrameReader {
         &self.bytes[0..self.count]
     }
 
-    /// A byte whose eight bits were read, at its stop bit.
-    fn end_byte(&mut self, value: u8, stop: bool) -> Progress
+    /// Keeps a byte whose eight bits were read, and hunts: its stop bit has still to be judged.
+    pub(crate) fn keep(&mut self, value: u8)
         requires { goes_on self.old.count (length_byte self.old.bytes) ≡ true }
-        ensures step { judged stop (bytes_of self.old ++ (value ∷ [])) ≡ stepped result self.new }
-        ensures hunts { ended result ≡ true → reading self.new ≡ hunting }
+        ensures hunts { self.new.phase ≡ Hunting }
+        ensures bytes { self.new.bytes ≡ slice_set self.old.bytes self.old.count value }
+        ensures count { self.new.count ≡ self.old.count + 1 }
+        ensures more { bytes_of self.new ≡ bytes_of self.old ++ (value ∷ []) }
     {
         self.phase = Phase::Hunting;
         self.bytes[self.count] = value;
         self.count += 1;
-        let progress = judge(&self.bytes[0..self.count], stop);
-        if let Progress::Unfinished = progress {
-            self.phase = Phase::Between;
-        }
-        progress
     }
 
-    /// One level of the line: what becomes of the frame.
-    pub fn hear(&mut self, level: bool) -> Progress
+    /// A byte whose eight bits were read, at its stop bit: how the frame ends, if it does.
+    fn end_byte(&mut self, value: u8, stop: bool) -> Option<Ending>
+        requires { goes_on self.old.count (length_byte self.old.bytes) ≡ true }
+        ensures step { judged stop (bytes_of self.old ++ (value ∷ [])) ≡ stepped result self.new }
+        ensures hunts { IfSome result (λ _. reading self.new ≡ hunting) }
+    {
+        self.keep(value);
+        let ending = judge(self.bytes(), stop);
+        if ending.is_none() {
+            self.phase = Phase::Between;
+        }
+        ending
+    }
+
+    /// One level of the line: how the frame ends, if it does.
+    pub fn hear(&mut self, level: bool) -> Option<Ending>
         ensures step { reads level (reading self.old) ≡ stepped result self.new }
-        ensures hunts { ended result ≡ true → reading self.new ≡ hunting }
+        ensures hunts { IfSome result (λ _. reading self.new ≡ hunting) }
         ensures keeps { reading self.old ≡ hunting → self.new ≡ self.old }
     {
         match self.phase {
-            Phase::Hunting => Progress::Unfinished,
+            Phase::Hunting => None,
             Phase::Between => {
                 if !level {
                     self.phase = Phase::Inside { left: 8, value: 0 };
                 }
-                Progress::Unfinished
+                None
             }
+            Phase::Inside { left: 0, value } => self.end_byte(value, level),
             Phase::Inside { left, value } => {
-                if left == 0 {
-                    return self.end_byte(value, level);
-                }
                 self.phase = Phase::Inside {
                     left: left - 1,
                     value: value / 2 + if level { 128 } else { 0 },
                 };
-                Progress::Unfinished
+                None
             }
         }
     }

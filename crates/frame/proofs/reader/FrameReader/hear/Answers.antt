@@ -1,35 +1,28 @@
-use Rattle.std.proofs.Common.{◌≡◌, ◌*◌, sym, ap, ◌∙◌, arith}
-use Rattle.std.proofs.lemmas.Bool.{false≢true}
+use Rattle.std.proofs.Common.{◌≡◌, ◌*◌, ◌<◌, sym, ap, ◌∙◌, arith}
 use Rattle.model.specs.Bits.{bit}
 use Rattle.frame.specs.Reader.{bytes_of}
-use Rattle.frame.proofs.Steps.{left_bits, not_hunting, stop_heard, bit-heard}
+use Rattle.frame.specs.declared.reader.Phase.TheVariants.{Inside}
+use Rattle.frame.proofs.Steps.{few_left, stop_heard, bit_heard}
 use Rattle.frame.proofs.reader.FrameReader.hear.Goals as goal
 use Rattle.frame.proofs.reader.FrameReader.hear.Goals.{then-level, else-level}
 
-pub returns-then-left-eq0 : goal.returns-then-left-eq0
-returns-then-left-eq0 c =
+pub returns-in-Inside-eq0-default-clause-step : goal.returns-in-Inside-eq0-default-clause-step
+returns-in-Inside-eq0-default-clause-step c =
     let r = c.args.self.now in
-    record {
-      step = stop_heard c.args.level r.phase (bytes_of r) c.in-Inside.left c.in-Inside.value c.in-Inside.is
-          c.if-left-eq0.true (omega arith)
-          ∙ c.end_byte.ensures.step;
-      hunts = c.end_byte.ensures.hunts;
-      keeps = λ e. absurd (not_hunting r.phase (bytes_of r) c.in-Inside.left c.in-Inside.value c.in-Inside.is e);
-    }
+    let a = c.in-Inside-eq0-default in
+    stop_heard c.args.level r.phase (bytes_of r) a.value (a.is ∙ ap (λ n. Inside n a.value) (sym a.left-is ∙ a.left-test)) (omega arith)
+    ∙ c.end_byte.ensures.step
 
-pub returns-after-level : goal.returns-after-level
-returns-after-level c =
+pub returns-after-level-clause-step : goal.returns-after-level-clause-step
+returns-after-level-clause-step c =
     let r = c.args.self.now in
+    let a = c.in-Inside in
     let level = c.args.level in
+    let some : 0 < a.left = let not_zero = rw a.is at a.left-test.1 in omega (arith, not_zero) in
+    let few = few_left r.phase r.count r.bytes a.left a.value a.is r.fits in
     let top : c.if-level.self ≡ bit level * 128 =
     elim c.if-level.branch [
       | then-level w ↦ w.self-is ∙ ap (λ b. bit b * 128) (sym w.if-level.true)
       | else-level w ↦ w.self-is ∙ ap (λ b. bit b * 128) (sym w.if-level.false)
     ] in
-    record {
-      step = bit-heard level r.phase (bytes_of r) c.in-Inside.left c.in-Inside.value c.if-level.self c.in-Inside.is
-          c.if-left-eq0.false (left_bits r.phase r.count r.bytes c.in-Inside.left c.in-Inside.value c.in-Inside.is r.fits)
-          (omega arith) top;
-      hunts = λ e. absurd (false≢true e);
-      keeps = λ e. absurd (not_hunting r.phase (bytes_of r) c.in-Inside.left c.in-Inside.value c.in-Inside.is e);
-    }
+    bit_heard level r.phase (bytes_of r) a.left a.value c.if-level.self a.is some few (omega arith) top
