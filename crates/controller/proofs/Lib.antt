@@ -1,6 +1,7 @@
-pub mod TxPages
-pub mod Control
 pub mod Outcomes
 pub mod Copies
-pub mod SendingLemmas
+pub mod Look
+pub mod Pages
 pub mod Endings
+pub mod Runs
+pub mod SendingLemmas

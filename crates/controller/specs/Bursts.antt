@@ -1,9 +1,29 @@
--- What a burst leaves of one controller, and of the caller's buffer; a refused one leaves both as found.
-use Rattle.std.specs.Prelude.{ℕ, cond, List, length, ◌==◌}
+-- What a burst is refused with, and what it leaves of one controller, and of the caller's buffer; a refused one leaves both as found.
+use Rattle.std.specs.Prelude.{ℕ, Bool, cond, not, List, [], ◌∷◌, length, ◌==◌, nat_lt}
 use Rattle.model.specs.Controller.{Controller}
-use Rattle.model.specs.Operations.{first_of, refuses_write, refuses_read, put_into}
-use Rattle.model.specs.Registers.{register_of}
+use Rattle.model.specs.Operations.{burst, first_of, refuses_write, refuses_read, put_into}
+use Rattle.model.specs.Registers.{Access, readable, writable, access_of, register_of, last_register, rx_number, tx_number}
 use Rattle.model.specs.RegisterRule.{writes_all, gives_all, leaves_all}
+use Rattle.controller.specs.declared.burst.Direction.{Direction}
+use Rattle.controller.specs.declared.burst.Direction.TheVariants.{Write, Read}
+
+-- a host may move bytes this way
+abbrev pub allows : Access → Direction → Bool
+allows a Write = writable a
+allows a Read = readable a
+
+-- the register that takes or gives several bytes at once
+abbrev pub burst_number : Direction → ℕ
+burst_number Write = tx_number
+burst_number Read = rx_number
+
+-- what writes and reads are both refused with: 3: no such register; 4: no access; 5: number of bytes
+abbrev pub refuses_burst : Direction → (register n : ℕ) → List (Bool × ℕ)
+refuses_burst way r n =
+    (nat_lt last_register r, 3)
+    ∷ (not (allows (access_of r) way), 4)
+    ∷ (not (burst (r == burst_number way) n), 5)
+    ∷ []
 
 -- the controller after a write
 unfoldable pub after_write : (register : ℕ) (bytes : List ℕ) → Controller → Controller

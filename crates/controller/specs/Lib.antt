@@ -7,8 +7,8 @@ pub mod Receiver
 pub mod Settings
 pub mod View
 pub mod Bursts
+pub mod Sending
 pub mod Transmission
 pub mod Marks
-pub mod Sending
 pub mod Listening
 pub mod Look

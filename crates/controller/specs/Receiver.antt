@@ -8,7 +8,7 @@ use Rattle.controller.specs.Ring.{page_ring}
 abbrev pub receiver : Receiver → ModelReceiver
 receiver r = record {
   ring = page_ring r.ring;
-  address = r.address;
+  address = r.pointer.place;
   rx_lost = r.rx_lost;
   rx_error = r.rx_error;
   reading = reading r.reader;

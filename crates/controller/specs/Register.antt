@@ -1,6 +1,8 @@
 -- The registers of the code by their numbers.
-use Rattle.std.specs.Prelude.{◌≡◌, ℕ, ◌<◌, Some, None, Option}
-use Rattle.model.specs.Registers.{last_register}
+use Rattle.std.specs.Prelude.{◌≡◌, ℕ, ◌<◌, Result, MatchResult}
+use Rattle.model.specs.Registers.{Register as ModelRegister, last_register, register_of}
+use Rattle.controller.specs.declared.refusal.Refusal.{Refusal}
+use Rattle.controller.specs.declared.refusal.Refusal.TheVariants.{NoRegister}
 use Rattle.controller.specs.declared.register.Register.{Register}
 use Rattle.controller.specs.declared.register.Register.TheVariants.{Version, Setting, IdleWaitLen, TxWaitLen, Filter, DivLsL, DivLsH, DivHsL, DivHsH, IntFlag, IntMask, Rx, Tx, RxCtrl, TxCtrl, RxAddr, RxPageFlag, Filter1, Filter2}
 
@@ -26,12 +28,10 @@ place RxPageFlag = 0x10
 place Filter1 = 0x11
 place Filter2 = 0x12
 
--- the register of a number, or nothing above the last
-abbrev pub Found : ℕ → Option Register → Type 0
-Found n (Some r) = place r ≡ n
-Found n None = last_register < n
+-- the register as the rules have it
+abbrev pub ruled : Register → ModelRegister
+ruled r = register_of (place r)
 
--- the number of a register that was found
-abbrev pub numbered : Option Register → Option ℕ
-numbered (Some r) = Some (place r)
-numbered None = None
+-- the register of a number, or the refusal of one above the last
+abbrev pub Found : ℕ → Result Register Refusal → Type 0
+Found n found = MatchResult found (λ r. place r ≡ n) (λ e. (e ≡ NoRegister) × (last_register < n))

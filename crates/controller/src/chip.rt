@@ -22,6 +22,7 @@ pub struct Controller {
 
 impl Controller {
     /// A controller as it is before anything is done with it.
+    #[tactic(auto, unfolding(model::specs::Controller::new))]
     pub fn new() -> Controller
         ensures { node result ≡ new }
     {
@@ -30,5 +31,13 @@ impl Controller {
             tx: Transmitter::new(),
             rx: Receiver::new(),
         }
+    }
+}
+
+impl Default for Controller {
+    ghost is_default = { λ controller. node controller ≡ new };
+
+    fn default() -> Controller {
+        Controller::new()
     }
 }

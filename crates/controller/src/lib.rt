@@ -6,6 +6,7 @@ mod burst;
 mod chip;
 mod marks;
 mod page;
+mod pointer;
 mod receiver;
 mod refusal;
 mod register;

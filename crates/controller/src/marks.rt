@@ -1,7 +1,7 @@
 ghost use Rattle.std.specs.Prelude.{◌≡◌, false};
 
 /// What a bit time answers for one controller. At the last conflict a page is given up, and its sender draws back too.
-#[derive(Clone, Copy, PartialEq, Eq, Debug)]
+#[derive(Clone, Copy, PartialEq, Eq, Debug, Default)]
 pub struct Marks {
     pub began: bool,
     pub drew_back: bool,
@@ -12,7 +12,7 @@ pub struct Marks {
 }
 
 impl Marks {
-    /// Nothing of it.
+    /// None of them.
     pub fn none() -> Marks
         ensures began { result.began ≡ false }
         ensures back { result.drew_back ≡ false }
@@ -20,12 +20,6 @@ impl Marks {
         ensures up { result.gave_up ≡ false }
         ensures ready { result.made_ready ≡ false }
     {
-        Marks {
-            began: false,
-            drew_back: false,
-            sent: false,
-            gave_up: false,
-            made_ready: false,
-        }
+        Marks::default()
     }
 }

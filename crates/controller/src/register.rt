@@ -1,9 +1,15 @@
-ghost use Rattle.std.specs.Prelude.{◌≡◌, ◌==◌};
-ghost use Rattle.controller.specs.Register.{Found, place, numbered};
-ghost use Rattle.model.specs.Registers.{rx_number, tx_number, readable, writable, access_of, number_of};
+ghost use Rattle.std.specs.Prelude.{◌≡◌, ◌==◌, option_map, IfOk};
+ghost use Rattle.controller.specs.Bursts.{allows, burst_number, refuses_burst};
+ghost use Rattle.controller.specs.Refusal.{refused_as};
+ghost use Rattle.controller.specs.Register.{Found, place};
+ghost use Rattle.model.specs.Operations.{first_of};
+ghost use Rattle.model.specs.Registers.{access_of, number_of};
+
+use crate::burst::{Direction, is_burst};
+use crate::refusal::Refusal;
 
 /// The registers, by the names of the data sheet.
-#[derive(Clone, Copy)]
+#[derive(Clone, Copy, PartialEq, Eq, Debug)]
 pub enum Register {
     Version = 0x00,
     Setting = 0x01,
@@ -34,37 +40,9 @@ impl Register {
         self as u8
     }
 
-    /// The register of a number; nothing above the last.
-    pub(crate) fn by_number(number: u8) -> Option<Register>
-        ensures { Found number result }
-    {
-        match number {
-            0x00 => Some(Register::Version),
-            0x01 => Some(Register::Setting),
-            0x02 => Some(Register::IdleWaitLen),
-            0x03 => Some(Register::TxWaitLen),
-            0x04 => Some(Register::Filter),
-            0x05 => Some(Register::DivLsL),
-            0x06 => Some(Register::DivLsH),
-            0x07 => Some(Register::DivHsL),
-            0x08 => Some(Register::DivHsH),
-            0x09 => Some(Register::IntFlag),
-            0x0A => Some(Register::IntMask),
-            0x0B => Some(Register::Rx),
-            0x0C => Some(Register::Tx),
-            0x0D => Some(Register::RxCtrl),
-            0x0E => Some(Register::TxCtrl),
-            0x0F => Some(Register::RxAddr),
-            0x10 => Some(Register::RxPageFlag),
-            0x11 => Some(Register::Filter1),
-            0x12 => Some(Register::Filter2),
-            0x13.. => None,
-        }
-    }
-
     /// The register of a name in the data sheet; an unknown name gives nothing.
     pub fn by_name(name: &str) -> Option<Register>
-        ensures { numbered result ≡ number_of name.now }
+        ensures { option_map place result ≡ number_of name.now }
     {
         match name {
             "VERSION" => Some(Register::Version),
@@ -90,38 +68,83 @@ impl Register {
         }
     }
 
-    /// A host may write it.
-    pub(crate) fn is_writable(self) -> bool
-        ensures { result ≡ writable (access_of (place self)) }
+    /// A host may move bytes this way.
+    fn allows(self, way: Direction) -> bool
+        ensures { result ≡ allows (access_of (place self)) way }
     {
-        match self {
-            Register::Version | Register::IntFlag | Register::Rx | Register::RxPageFlag => false,
-            _ => true,
+        match way {
+            Direction::Write => !matches!(
+                self,
+                Register::Version | Register::IntFlag | Register::Rx | Register::RxPageFlag
+            ),
+            Direction::Read => !matches!(self, Register::Tx | Register::RxCtrl | Register::TxCtrl),
         }
     }
 
-    /// A host may read it.
-    pub(crate) fn is_readable(self) -> bool
-        ensures { result ≡ readable (access_of (place self)) }
+    /// TX takes several bytes at once, and RX gives them.
+    fn moves_several(self, way: Direction) -> bool
+        ensures { result ≡ (place self == burst_number way) }
     {
-        match self {
-            Register::Tx | Register::RxCtrl | Register::TxCtrl => false,
-            _ => true,
+        match way {
+            Direction::Write => self == Register::Tx,
+            Direction::Read => self == Register::Rx,
         }
     }
 
-    /// TX takes several bytes at once.
-    pub(crate) fn is_tx(self) -> bool
-        ensures { result ≡ (place self == tx_number) }
+    /// The register of a number if so many bytes may go this way at once, or the first refusal that fits.
+    pub(crate) fn for_burst(number: u8, way: Direction, count: usize) -> Result<Register, Refusal>
+        ensures refuses { refused_as result ≡ first_of (refuses_burst way number count) }
+        ensures found { IfOk result (λ found. place found ≡ number) }
     {
-        matches!(self, Register::Tx)
+        let found = Register::try_from(number)?;
+        if !found.allows(way) {
+            return Err(Refusal::NoAccess);
+        }
+        if !is_burst(found.moves_several(way), count) {
+            return Err(Refusal::ByteCount);
+        }
+        Ok(found)
     }
+}
 
-    /// RX gives several bytes at once.
-    pub(crate) fn is_rx(self) -> bool
-        ensures { result ≡ (place self == rx_number) }
-    {
-        matches!(self, Register::Rx)
+/// The register's number.
+impl From<Register> for u8 {
+    ghost from_gives = { λ register number. number ≡ place register };
+
+    fn from(register: Register) -> u8 {
+        register.number()
+    }
+}
+
+/// The register of a number; none above the last.
+impl TryFrom<u8> for Register {
+    type Error = Refusal;
+
+    ghost try_from_gives = { Found };
+
+    fn try_from(number: u8) -> Result<Register, Refusal> {
+        match number {
+            0x00 => Ok(Register::Version),
+            0x01 => Ok(Register::Setting),
+            0x02 => Ok(Register::IdleWaitLen),
+            0x03 => Ok(Register::TxWaitLen),
+            0x04 => Ok(Register::Filter),
+            0x05 => Ok(Register::DivLsL),
+            0x06 => Ok(Register::DivLsH),
+            0x07 => Ok(Register::DivHsL),
+            0x08 => Ok(Register::DivHsH),
+            0x09 => Ok(Register::IntFlag),
+            0x0A => Ok(Register::IntMask),
+            0x0B => Ok(Register::Rx),
+            0x0C => Ok(Register::Tx),
+            0x0D => Ok(Register::RxCtrl),
+            0x0E => Ok(Register::TxCtrl),
+            0x0F => Ok(Register::RxAddr),
+            0x10 => Ok(Register::RxPageFlag),
+            0x11 => Ok(Register::Filter1),
+            0x12 => Ok(Register::Filter2),
+            0x13.. => Err(Refusal::NoRegister),
+        }
     }
 }
 

@@ -1,13 +1,12 @@
-ghost use Rattle.std.specs.Prelude.{◌≡◌, length, IfOk};
+ghost use Rattle.std.specs.Prelude.{◌≡◌, ◌+◌, length, nat_le};
 ghost use Rattle.controller.specs.Bursts.{after_read, buffer_read};
 ghost use Rattle.controller.specs.Refusal.{refused_as};
-ghost use Rattle.controller.specs.Register.{place as place_of};
+ghost use Rattle.controller.specs.Register.{ruled};
 ghost use Rattle.controller.specs.View.{node};
 ghost use Rattle.model.specs.Operations.{first_of, refuses_read};
-ghost use Rattle.model.specs.Registers.{register_of};
 ghost use Rattle.model.specs.RegisterRule.{gives, gives_all, leaves, leaves_all};
 
-use crate::burst::is_burst;
+use crate::burst::Direction;
 use crate::chip::Controller;
 use crate::refusal::Refusal;
 use crate::register::Register;
@@ -15,11 +14,18 @@ use crate::register::Register;
 /// What VERSION reads as.
 const VERSION: u8 = 0x07;
 
+/// Whether a buffer takes so many bytes from a place on.
+fn has_room(length: usize, place: usize, count: usize) -> bool
+    ensures { result ≡ nat_le (place + count) length }
+{
+    place.checked_add(count).is_some_and(|end| end <= length)
+}
+
 impl Controller {
     /// The byte that a register gives; reading RX steps RX_ADDR on.
     fn read_byte(&mut self, register: Register) -> u8
-        ensures gives { result ≡ gives (register_of (place_of register)) (node self.old) }
-        ensures leaves { node self.new ≡ leaves (register_of (place_of register)) (node self.old) }
+        ensures gives { result ≡ gives (ruled register) (node self.old) }
+        ensures leaves { node self.new ≡ leaves (ruled register) (node self.old) }
     {
         match register {
             Register::Version => VERSION,
@@ -42,34 +48,10 @@ impl Controller {
         }
     }
 
-    /// The register of a number if it gives so many bytes into a buffer, or the first refusal that fits.
-    fn check_read(
-        register: u8,
-        room: usize,
-        place: usize,
-        count: usize,
-    ) -> Result<Register, Refusal>
-        ensures refuses { refused_as result ≡ first_of (refuses_read register count place room) }
-        ensures found { IfOk result (λ found. place_of found ≡ register) }
-    {
-        let Some(found) = Register::by_number(register) else {
-            return Err(Refusal::NoRegister);
-        };
-        if !found.is_readable() {
-            return Err(Refusal::NoAccess);
-        }
-        if !is_burst(found.is_rx(), count) {
-            return Err(Refusal::ByteCount);
-        }
-        if place > room || count > room - place {
-            return Err(Refusal::Buffer);
-        }
-        Ok(found)
-    }
-
+    #[tactic(auto, using(crate::proofs::Runs::read_steps))]
     fn read_all(&mut self, register: Register, part: &mut [u8])
-        ensures gives { part.new ≡ gives_all (register_of (place_of register)) (length part.old) (node self.old) }
-        ensures leaves { node self.new ≡ leaves_all (register_of (place_of register)) (length part.old) (node self.old) }
+        ensures gives { part.new ≡ gives_all (ruled register) (length part.old) (node self.old) }
+        ensures leaves { node self.new ≡ leaves_all (ruled register) (length part.old) (node self.old) }
     {
         for byte in part.iter_mut() {
             *byte = self.read_byte(register);
@@ -77,6 +59,7 @@ impl Controller {
     }
 
     /// Reads so many bytes of a register into a buffer from a place on.
+    #[tactic(auto, unfolding(crate::specs::Bursts::after_read, crate::specs::Bursts::buffer_read))]
     pub fn read(
         &mut self,
         register: u8,
@@ -88,7 +71,10 @@ impl Controller {
         ensures after { node self.new ≡ after_read register count place (length buffer.old) (node self.old) }
         ensures buffer { buffer.new ≡ buffer_read register count place (node self.old) buffer.old }
     {
-        let found = Controller::check_read(register, buffer.len(), place, count)?;
+        let found = Register::for_burst(register, Direction::Read, count)?;
+        if !has_room(buffer.len(), place, count) {
+            return Err(Refusal::Buffer);
+        }
         self.read_all(found, &mut buffer[place..place + count]);
         Ok(())
     }

@@ -5,6 +5,7 @@ ghost use Rattle.model.specs.BitTime.{begins as begins_now, driving as driving_n
 
 use crate::chip::Controller;
 use crate::marks::Marks;
+use crate::transmitter::Transmission;
 
 impl Controller {
     /// A page waits, is not being sent, and the line was 1 for both waits.
@@ -36,15 +37,20 @@ impl Controller {
     {
         let began = self.begins();
         let Controller { settings, tx, rx } = self;
-        tx.begin(began);
+        if began {
+            tx.begin();
+        }
         let transmission = tx.transmit(level);
         let made_ready = rx.listen(settings, level);
         rx.count(level);
         Marks {
             began,
-            drew_back: transmission.drew_back(),
-            sent: transmission.was_sent(),
-            gave_up: transmission.gave_up(),
+            drew_back: matches!(
+                transmission,
+                Some(Transmission::DrewBack | Transmission::GaveUp)
+            ),
+            sent: matches!(transmission, Some(Transmission::Sent)),
+            gave_up: matches!(transmission, Some(Transmission::GaveUp)),
             made_ready,
         }
     }

@@ -1,14 +1,13 @@
-ghost use Rattle.std.specs.Prelude.{◌≡◌, IfOk};
+ghost use Rattle.std.specs.Prelude.{◌≡◌};
 ghost use Rattle.controller.specs.Bursts.{after_write};
 ghost use Rattle.controller.specs.Refusal.{refused_as};
-ghost use Rattle.controller.specs.Register.{place};
+ghost use Rattle.controller.specs.Register.{ruled};
 ghost use Rattle.controller.specs.View.{node};
 ghost use Rattle.model.specs.Operations.{first_of, refuses_write};
-ghost use Rattle.model.specs.Registers.{register_of};
 ghost use Rattle.model.specs.RegisterRule.{admits as admitted, writes, writes_all};
 
 use crate::bits::has;
-use crate::burst::is_burst;
+use crate::burst::Direction;
 use crate::chip::Controller;
 use crate::refusal::Refusal;
 use crate::register::Register;
@@ -20,7 +19,7 @@ const SETTING_BITS: u8 = 0x39;
 impl Controller {
     /// Whether a register takes a value now.
     fn admits(&self, register: Register, value: u8) -> bool
-        ensures { result ≡ admitted (register_of (place register)) value (node self.now) }
+        ensures { result ≡ admitted (ruled register) value (node self.now) }
     {
         match (register, value) {
             (Register::Version | Register::IntFlag | Register::Rx | Register::RxPageFlag, _) =>
@@ -36,29 +35,9 @@ impl Controller {
         }
     }
 
-    /// The register of a number if it takes these bytes, or the first refusal that fits.
-    fn check_write(&self, register: u8, bytes: &[u8]) -> Result<Register, Refusal>
-        ensures refuses { refused_as result ≡ first_of (refuses_write register bytes.now (node self.now)) }
-        ensures found { IfOk result (λ found. place found ≡ register) }
-    {
-        let Some(found) = Register::by_number(register) else {
-            return Err(Refusal::NoRegister);
-        };
-        if !found.is_writable() {
-            return Err(Refusal::NoAccess);
-        }
-        if !is_burst(found.is_tx(), bytes.len()) {
-            return Err(Refusal::ByteCount);
-        }
-        if !self.admits(found, bytes[0]) {
-            return Err(Refusal::Value);
-        }
-        Ok(found)
-    }
-
     /// One byte written to a register; one that is read only stays.
     fn write_byte(&mut self, register: Register, value: u8)
-        ensures { node self.new ≡ writes (register_of (place register)) value (node self.old) }
+        ensures { node self.new ≡ writes (ruled register) value (node self.old) }
     {
         match register {
             Register::Setting => self.settings.setting = value,
@@ -80,8 +59,9 @@ impl Controller {
         }
     }
 
+    #[tactic(auto, using(crate::proofs::Runs::write_steps))]
     fn write_all(&mut self, register: Register, bytes: &[u8])
-        ensures { node self.new ≡ writes_all (register_of (place register)) bytes.now (node self.old) }
+        ensures { node self.new ≡ writes_all (ruled register) bytes.now (node self.old) }
     {
         for byte in bytes {
             self.write_byte(register, *byte);
@@ -89,11 +69,15 @@ impl Controller {
     }
 
     /// Writes bytes to a register, one after the other.
+    #[tactic(auto, unfolding(crate::specs::Bursts::after_write))]
     pub fn write(&mut self, register: u8, bytes: &[u8]) -> Result<(), Refusal>
         ensures refuses { refused_as result ≡ first_of (refuses_write register bytes.now (node self.old)) }
         ensures after { node self.new ≡ after_write register bytes.now (node self.old) }
     {
-        let found = self.check_write(register, bytes)?;
+        let found = Register::for_burst(register, Direction::Write, bytes.len())?;
+        if !self.admits(found, bytes[0]) {
+            return Err(Refusal::Value);
+        }
         self.write_all(found, bytes);
         Ok(())
     }

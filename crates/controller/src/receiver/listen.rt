@@ -1,14 +1,14 @@
-ghost use Rattle.std.specs.Prelude.{◌≡◌, ◌-◌, ◌≤◌, min, length, nat_lt};
-ghost use Rattle.controller.specs.Listening.{hears};
+ghost use Rattle.std.specs.Prelude.{◌≡◌, ◌-◌, ◌≤◌, min, length};
+ghost use Rattle.controller.specs.Listening.{hears, makes_ready};
 ghost use Rattle.controller.specs.Receiver.{receiver};
 ghost use Rattle.controller.specs.Settings.{settings as settings_of};
 ghost use Rattle.frame.specs.Reader.{bytes_of, reading};
-ghost use Rattle.model.specs.BitTime.{noticed, end_right, end_broken, counts};
+ghost use Rattle.model.specs.BitTime.{noticed, end_right, end_broken, times_out, counts};
 ghost use Rattle.model.specs.Reading.{hunting};
 
 use crate::receiver::Receiver;
 use crate::settings::Settings;
-use frame::Progress;
+use frame::{CRC_BYTES, Ending};
 
 /// The ones count goes no higher.
 const MAX_ONES: u16 = 510;
@@ -29,8 +29,7 @@ fn last_place(frame: &[u8]) -> u8
     requires { 1 ≤ length frame.now }
     ensures { result ≡ min (length frame.now - 1) 255 }
 {
-    let last = frame.len() - 1;
-    if last < 255 { last as u8 } else { 255 }
+    u8::try_from(frame.len() - 1).unwrap_or(u8::MAX)
 }
 
 impl Receiver {
@@ -40,7 +39,7 @@ impl Receiver {
         requires hunts { reading self.old.reader ≡ hunting }
         requires long { 2 ≤ length (bytes_of self.old.reader) }
         ensures after { receiver self.new ≡ end_right (settings_of settings.now) (bytes_of self.old.reader) (receiver self.old) }
-        ensures made { result ≡ nat_lt (receiver self.old).ring.ready (receiver self.new).ring.ready }
+        ensures made { result ≡ makes_ready (receiver self.old) (receiver self.new) }
     {
         let Receiver {
             ring,
@@ -52,7 +51,7 @@ impl Receiver {
         if !is_wanted(settings, frame) {
             return false;
         }
-        let made_ready = ring.fill(&frame[0..frame.len() - 2], 0);
+        let made_ready = ring.fill(&frame[..frame.len() - CRC_BYTES], 0);
         if !made_ready {
             *rx_lost = true;
         }
@@ -60,11 +59,11 @@ impl Receiver {
     }
 
     /// The broken end of a frame: if it is wanted, RX_ERROR sets, and SETTING says whether it is saved.
-    #[tactic(auto, unfolding(model::specs::BitTime::end_broken, model::specs::BitTime::filled))]
+    #[tactic(auto, using(crate::proofs::Endings::noticed_two), unfolding(model::specs::BitTime::end_broken, model::specs::BitTime::filled))]
     fn end_broken(&mut self, settings: &Settings) -> bool
         requires { reading self.old.reader ≡ hunting }
         ensures after { receiver self.new ≡ end_broken (settings_of settings.now) (bytes_of self.old.reader) (receiver self.old) }
-        ensures made { result ≡ nat_lt (receiver self.old).ring.ready (receiver self.new).ring.ready }
+        ensures made { result ≡ makes_ready (receiver self.old) (receiver self.new) }
     {
         let Receiver {
             ring,
@@ -80,22 +79,32 @@ impl Receiver {
         settings.saves_broken() && ring.fill(frame, last_place(frame))
     }
 
+    /// Ends the frame that is being read, if any, broken by time.
+    #[tactic(auto, using(crate::proofs::Endings::timed))]
+    fn time_out(&mut self, settings: &Settings) -> bool
+        ensures after { receiver self.new ≡ times_out (settings_of settings.now) (receiver self.old).reading (receiver self.old) }
+        ensures made { result ≡ makes_ready (receiver self.old) (receiver self.new) }
+    {
+        self.reader.close();
+        self.end_broken(settings)
+    }
+
     /// A receiver that was idle ends the frame that it is in, broken by time, and takes a 0 for a start bit; one that was
     /// not reads on. Whether a page was made ready.
+    #[tactic(auto, unfolding(model::specs::BitTime::follows, model::specs::BitTime::end_broken, model::specs::BitTime::end_right))]
     pub(crate) fn listen(&mut self, settings: &Settings, level: bool) -> bool
         ensures after { receiver self.new ≡ hears level (settings_of settings.now) (receiver self.old) }
-        ensures made { result ≡ nat_lt (receiver self.old).ring.ready (receiver self.new).ring.ready }
+        ensures made { result ≡ makes_ready (receiver self.old) (receiver self.new) }
     {
-        if self.is_idle(settings.idle_wait_len) {
-            self.reader.close();
-            let made_ready = self.end_broken(settings);
+        if self.has_waited(settings.idle_wait_len.into()) {
+            let made_ready = self.time_out(settings);
             self.reader.open(level);
             return made_ready;
         }
         match self.reader.hear(level) {
-            Progress::Unfinished => false,
-            Progress::Right => self.end_right(settings),
-            Progress::Broken => self.end_broken(settings),
+            None => false,
+            Some(Ending::Right) => self.end_right(settings),
+            Some(Ending::Broken) => self.end_broken(settings),
         }
     }
 
@@ -104,12 +113,10 @@ impl Receiver {
     pub(crate) fn count(&mut self, level: bool)
         ensures { receiver self.new ≡ counts level (receiver self.old) }
     {
-        self.ones = if !level {
-            0
-        } else if self.ones < MAX_ONES {
-            self.ones + 1
+        self.ones = if level {
+            self.ones.saturating_add(1).min(MAX_ONES)
         } else {
-            MAX_ONES
+            0
         };
     }
 }

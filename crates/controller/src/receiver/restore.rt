@@ -1,29 +1,31 @@
 ghost use Rattle.std.specs.Prelude.{◌≡◌};
 
+use crate::pointer::PagePointer;
+use std::mem;
+
 /// RX_ADDR lent for a while: it is put back as it was on every way out.
 pub(crate) struct Restore<'a> {
-    pub(crate) address: &'a mut u8,
-    saved: u8,
+    pub(crate) pointer: &'a mut PagePointer,
+    saved: PagePointer,
 }
 
 impl Drop for Restore<'_> {
     fn drop(self)
         ensures { self.exit.0.now ≡ self.entry.saved }
     {
-        let Restore { address, saved } = self;
-        *address = saved;
+        let Restore { pointer, saved } = self;
+        *pointer = saved;
     }
 }
 
 impl<'a> Restore<'a> {
     /// RX_ADDR at a place for now.
-    pub(crate) fn at(address: &'a mut u8, place: u8) -> Restore<'a>
-        ensures place { result.address.now ≡ place }
-        ensures saved { result.saved ≡ address.old }
-        ensures lender { result.address.ghost_name ≡ address.entry.ghost_name }
+    pub(crate) fn at(pointer: &'a mut PagePointer, place: u8) -> Restore<'a>
+        ensures place { result.pointer.now.place ≡ place }
+        ensures saved { result.saved ≡ pointer.old }
+        ensures lender { result.pointer.ghost_name ≡ pointer.entry.ghost_name }
     {
-        let saved = *address;
-        *address = place;
-        Restore { address, saved }
+        let saved = mem::replace(pointer, PagePointer::at(place));
+        Restore { pointer, saved }
     }
 }

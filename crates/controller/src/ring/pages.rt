@@ -1,4 +1,4 @@
-ghost use Rattle.std.specs.Prelude.{◌≡◌, length, slice_index};
+ghost use Rattle.std.specs.Prelude.{◌≡◌, true, length, slice_index};
 ghost use Rattle.controller.specs.Ring.{page_of, page_ring};
 ghost use Rattle.model.specs.Controller.{page_size, read_page, new_ring};
 ghost use Rattle.model.specs.RegisterRule.{is_ready, switched, wiped};
@@ -57,22 +57,20 @@ impl PageRing {
     }
 
     /// A read page that is ready is unmarked, and the next is read.
-    pub(crate) fn switch(&mut self, asked: bool)
-        ensures { page_ring self.new ≡ switched asked (page_ring self.old) }
+    pub(crate) fn switch(&mut self)
+        ensures { page_ring self.new ≡ switched true (page_ring self.old) }
     {
-        if asked && self.is_ready() {
+        if self.is_ready() {
             self.read = (self.read + 1) % RX_PAGES as u8;
             self.ready -= 1;
         }
     }
 
     /// All marks go, and the read page and the fill page are page 0.
-    pub(crate) fn wipe(&mut self, asked: bool)
-        ensures { page_ring self.new ≡ wiped asked (page_ring self.old) }
+    pub(crate) fn wipe(&mut self)
+        ensures { page_ring self.new ≡ wiped true (page_ring self.old) }
     {
-        if asked {
-            self.read = 0;
-            self.ready = 0;
-        }
+        self.read = 0;
+        self.ready = 0;
     }
 }

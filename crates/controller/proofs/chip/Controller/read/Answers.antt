@@ -1,47 +1,37 @@
-use Rattle.std.proofs.Common.{ℕ, ◌+◌, ◌≤◌, length, ◌∙◌, ap₂, arith}
+use Rattle.std.proofs.Common.{◌≡◌, ℕ, length, ap, ◌∙◌, arith}
 use Rattle.std.proofs.lemmas.Bool.Decides.{nat_tests}
-use Rattle.model.specs.Registers.{register_of}
-use Rattle.model.specs.RegisterRule.{gives_all, leaves_all}
 use Rattle.model.specs.Operations.{first_of, refuses_read, put_into}
-use Rattle.controller.specs.Bursts.{after_read, buffer_read}
+use Rattle.model.specs.Registers.{register_of}
+use Rattle.model.specs.RegisterRule.{gives_all}
+use Rattle.controller.specs.Bursts.{buffer_read}
+use Rattle.controller.specs.Register.{place}
 use Rattle.controller.specs.View.{node}
-use Rattle.controller.proofs.Outcomes.{refused_leaves, accepted-leaves, refused_exit, part_length, into_part}
+use Rattle.controller.proofs.Outcomes.{refused_exit, refused_leaves, accepted-leaves, first_decides, into_part}
 use Rattle.controller.proofs.chip.Controller.read.Goals as goal
 
-pub returns-in_err-found : goal.returns-in_err-found
-unfolding after_read buffer_read
-returns-in_err-found c =
-    let r = register_of c.args.register in
-    let n = c.args.count in
-    let buffer = c.args.buffer.now in
-    let start = node c.args.self.now in
-    let number = first_of (refuses_read c.args.register n c.args.place (length buffer)) in
+pub returns-in_err-found-clause-refuses : goal.returns-in_err-found-clause-refuses
+returns-in_err-found-clause-refuses c =
     let why = c.in_err-found.field-0.0 in
-    let because = c.in_err-found.ensures.refuses in
-    record {
-      refuses = refused_exit c.from_residual.result why number c.from_residual.ensures.1 because;
-      after = refused_leaves why number (leaves_all r n start) start because;
-      buffer = refused_leaves why number (put_into buffer c.args.place (gives_all r n start)) buffer because;
-    }
+    let tests = refuses_read c.args.register c.args.count c.args.place (length c.args.buffer.now) in
+    refused_exit c.from_residual.result why (first_of tests) c.from_residual.ensures.1 (first_decides why 3 tests c.in_err-found.ensures.refuses)
 
-pub returns : goal.returns
-unfolding after_read buffer_read
-returns c =
-    let r = register_of c.args.register in
-    let n = c.args.count in
+pub returns-in_err-found-clause-buffer : goal.returns-in_err-found-clause-buffer
+unfolding buffer_read
+returns-in_err-found-clause-buffer c =
+    let why = c.in_err-found.field-0.0 in
+    let buffer = c.args.buffer.now in
+    let tests = refuses_read c.args.register c.args.count c.args.place (length buffer) in
+    let given = gives_all (register_of c.args.register) c.args.count (node c.args.self.now) in
+    refused_leaves why (first_of tests) (put_into buffer c.args.place given) buffer (first_decides why 3 tests c.in_err-found.ensures.refuses)
+
+pub returns-clause-buffer : goal.returns-clause-buffer
+unfolding buffer_read
+returns-clause-buffer c =
     let buffer = c.args.buffer.now in
     let start = node c.args.self.now in
-    let number = first_of (refuses_read c.args.register n c.args.place (length buffer)) in
-    let fine = c.in_ok-found.ensures.refuses in
-    let same = c.in_ok-found.ensures.found in
-    let fits : c.args.place + n ≤ length buffer = grind (arith, nat_tests) in
-    let count = part_length buffer c.args.place n fits in
-    record {
-      refuses = fine;
-      after = c.read_all.ensures.leaves
-          ∙ ap₂ (λ (k m : ℕ). leaves_all (register_of k) m start) same count
-          ∙ accepted-leaves number (leaves_all r n start) start fine;
-      buffer = into_part r start buffer c.read_all.new.part c.args.place n fits
-          (c.read_all.ensures.gives ∙ ap₂ (λ (k m : ℕ). gives_all (register_of k) m start) same count)
-          ∙ accepted-leaves number (put_into buffer c.args.place (gives_all r n start)) buffer fine;
-    }
+    let tests = refuses_read c.args.register c.args.count c.args.place (length buffer) in
+    let given = gives_all (register_of c.args.register) c.args.count start in
+    let none : 0 ≡ first_of tests = grind (arith, nat_tests) in
+    into_part (register_of (place c.in_ok-found.found)) start buffer c.read_all.new.part c.args.place c.args.count (grind (arith, nat_tests)) c.read_all.ensures.gives
+    ∙ ap (λ (k : ℕ). put_into buffer c.args.place (gives_all (register_of k) c.args.count start)) c.in_ok-found.ensures.found
+    ∙ accepted-leaves (first_of tests) (put_into buffer c.args.place given) buffer none
