@@ -1,3 +1,3 @@
 pub mod Views
-pub mod Operations
+pub mod Buffers
 pub mod BitTimes

@@ -1,55 +1,47 @@
 -- Tables of the code seen through a view of their elements.
-use Rattle.std.proofs.Common.{◌≡◌, ℕ, zero, suc, ◌+◌, ◌<◌, List, [], ◌∷◌, ◌++◌, map, length, get_or, take, drop, set, replicate, sym, refl, ap, ◌∙◌, arith}
-use Rattle.std.proofs.lemmas.List.{map-set, length-map, length-take, get_or-map, get_or_at, drop_more, take_at}
+use Rattle.std.proofs.Common.{◌≡◌, ℕ, zero, suc, ◌+◌, ◌<◌, ◌&&◌, cond, eqb, List, [], ◌∷◌, ◌++◌, map, length, get_or, take, drop, set, replicate, sym, refl, ap, ◌∙◌, arith, length-append}
+use Rattle.std.specs.List.{list_all}
+use Rattle.std.proofs.lemmas.List.{map-set, map-append, map_more, set-get_or, length-map, length-take, get_or-map, get_or_at, drop_more}
 use Rattle.std.proofs.lemmas.List.Edits.{map_over_more}
-use Rattle.controller.proofs.Copies.{copy_more}
+use Rattle.controller.specs.declared.chip.Controller.{Controller}
+use Rattle.controller.specs.View.{node, nodes}
+use Rattle.model.specs.BitTime.{all, driving}
 
--- a loop that changes each element in turn
-pub view_over_more : {X Y : Type 0} (v : X → Y) (f : Y → Y) (xs ys : List X) (i : ℕ) (x y : X)
-    → i < length xs → length ys ≡ length xs → map v ys ≡ map f (take i (map v xs)) ++ drop i (map v xs) → v y ≡ f (v (get_or ys i x))
-    → map v (set ys i y) ≡ map f (take (i + 1) (map v xs)) ++ drop (i + 1) (map v xs)
-view_over_more v f xs ys i x y lt len so_far step =
-    let lx : i < length (map v xs) = omega (arith, length-map xs v) in
-    let ly : i < length ys = omega arith in
-    let old = v (get_or ys i x) in
-    map-set v ys i y ∙ ap (set (map v ys) i) step
-    ∙ map_over_more f (map v xs) (map v ys) i old lx so_far (sym (get_or-map v ys i x old ly))
+-- the rules' word for it and std's
+pub all_nodes : (cs : List Controller) → all (map driving (nodes cs)) ≡ list_all (λ c. driving (node c)) cs
+all_nodes [] = refl
+all_nodes (c ∷ cs) = ap (λ b. driving (node c) && b) (all_nodes cs)
 
--- the element that comes next in such a loop is as found
-pub view_next : {X Y : Type 0} (v : X → Y) (f : Y → Y) (xs ys : List X) (i : ℕ) (x : X)
-    → i < length xs → length ys ≡ length xs → map v ys ≡ map f (take i (map v xs)) ++ drop i (map v xs) → v (get_or ys i x) ≡ v (get_or xs i x)
-view_next v f xs ys i x lt len so_far =
-    let zs = map v xs in
-    let front = map f (take i zs) in
-    let in_zs : i < length zs = omega (arith, length-map xs v) in
-    let short : length front ≡ i = length-map (take i zs) f ∙ omega (arith, length-take i zs) in
-    sym (get_or-map v ys i x (v x) (omega arith))
-    ∙ ap (λ l. get_or l i (v x)) (so_far ∙ ap (λ l. front ++ l) (drop_more zs i (v x) in_zs))
-    ∙ get_or_at front (get_or zs i (v x)) (drop (i + 1) zs) (v x) i short
-    ∙ get_or-map v xs i x (v x) lt
+pub map-replicate : {X Y : Type 0} (v : X → Y) (n : ℕ) (x : X) → map v (replicate n x) ≡ replicate n (v x)
+map-replicate v zero x = refl
+map-replicate v (suc n) x = ap (λ ys. v x ∷ ys) (map-replicate v n x)
 
--- a loop that writes at each place what belongs there
-pub view_into_more : {M N : Type 0} (v : M → N) (new : List N) (old ms : List M) (i : ℕ) (m : M)
-    → i < length new → i < length old → map v ms ≡ take i new ++ drop i (map v old) → v m ≡ get_or new i (v m)
-    → map v (set ms i m) ≡ take (i + 1) new ++ drop (i + 1) (map v old)
-view_into_more v new old ms i m lt room so_far step =
-    map-set v ms i m ∙ ap (λ l. set l i (v m)) so_far
-    ∙ copy_more (map v old) new i (v m) (v m) (omega (arith, length-map old v)) lt step
+-- the first i elements have been changed by f, with what g tells of them, and the others are as found
+pub record Moved {X Y M N : Type 0} (v : X → Y) (w : M → N) (f : Y → Y) (g : Y → N) (t : List Y) (i : ℕ) (xs : List X) (ms : List M) : Type 0 where
+  pub many : length ms ≡ i
+  pub changed : map v xs ≡ map f (take i t) ++ drop i t
+  pub told : map w ms ≡ map g (take i t)
 
-map-take : {M N : Type 0} (v : M → N) (n : ℕ) (ms : List M) → map v (take n ms) ≡ take n (map v ms)
-map-take v zero ms = refl
-map-take v (suc n) [] = refl
-map-take v (suc n) (m ∷ ms) = ap (λ l. v m ∷ l) (map-take v n ms)
+pub moved_more : {X Y M N : Type 0} {v : X → Y} {w : M → N} {f : Y → Y} {g : Y → N} {t : List Y} {i : ℕ} {xs : List X} {ms : List M} (x y : X) (m : M) (ns : List M)
+    → Moved v w f g t i xs ms → i < length t → length xs ≡ length t
+    → v y ≡ f (v (get_or xs i x)) → w m ≡ g (v (get_or xs i x)) → ns ≡ ms ++ m ∷ []
+    → Moved v w f g t (i + 1) (set xs i y) ns
+moved_more {v} {w} {f} {g} {t} {i} {xs} {ms} x y m ns was lt len changes tells is =
+    let front = map f (take i t) in
+    let old = v (get_or xs i x) in
+    let read : old ≡ get_or (map v xs) i old = sym (get_or-map v xs i x old (omega arith)) in
+    let short : length front ≡ i = length-map (take i t) f ∙ omega (arith, length-take i t) in
+    let here : old ≡ get_or t i old =
+    read ∙ ap (λ l. get_or l i old) (was.changed ∙ ap (λ l. front ++ l) (drop_more t i old lt)) ∙ get_or_at front (get_or t i old) (drop (i + 1) t) old i short in
+    record {
+      many = omega (arith, length-append ms (m ∷ []), ap length is);
+      changed = map-set v xs i y ∙ ap (set (map v xs) i) changes ∙ map_over_more f t (map v xs) i old lt was.changed read;
+      told = grind (arith, map-append, map_more g t i old);
+    }
 
--- the places in front, of as many as were written
-pub view_front : {M N : Type 0} (v : M → N) (ms : List M) (front rest : List N) (n : ℕ) → map v ms ≡ front ++ rest → length front ≡ n → map v (take n ms) ≡ front
-view_front v ms front rest n is long = map-take v n ms ∙ ap (take n) is ∙ take_at front rest n long
-
--- one element changed
-pub view_at : {X Y : Type 0} (v : X → Y) (xs : List X) (k : ℕ) (y : X) (z : Y) → v y ≡ z → map v (set xs k y) ≡ set (map v xs) k z
-view_at v xs k y z is = map-set v xs k y ∙ ap (set (map v xs) k) is
-
--- each element made the same
-pub map_same : {X Y : Type 0} (y : Y) (xs : List X) → map (λ _. y) xs ≡ replicate (length xs) y
-map_same y [] = refl
-map_same y (x ∷ xs) = ap (λ ys. y ∷ ys) (map_same y xs)
+-- one element changed, or none
+pub changed_or_not : {X Y : Type 0} (v : X → Y) (e : Y) (f : Y → Y) (xs : List X) (k n m : ℕ) (x y : X)
+    → k < length xs → v y ≡ cond (eqb n 0) (f (v (get_or xs k x))) (v (get_or xs k x)) → n ≡ m
+    → map v (set xs k y) ≡ cond (eqb m 0) (set (map v xs) k (f (get_or (map v xs) k e))) (map v xs)
+changed_or_not v e f xs k n m x y lt is same =
+    grind (arith, map-set v xs k y, get_or-map v xs k x e lt, set-get_or (map v xs) k e, is, same)

@@ -11,11 +11,7 @@ use Rattle.line.specs.declared.answer.Answer.{Answer}
 abbrev pub marks_of : Answer → List Marks
 marks_of a = take a.controllers a.marks
 
--- the level and the marks
-abbrev pub answered_by : Answer → Outcome
-answered_by a = answered a.level (map marked (marks_of a))
-
--- the same, or the number of the refusal
+-- the level and the marks, or the number of the refusal
 abbrev pub outcome_of : Result Answer Refusal → Outcome
-outcome_of (Ok a) = answered_by a
+outcome_of (Ok a) = answered a.level (map marked (marks_of a))
 outcome_of (Err e) = refused (number_of e)

@@ -11,7 +11,7 @@ pub use answer::Answer;
 pub use clock::{bit_time, run};
 pub use ports::{port_read, port_write};
 pub use read_page::look;
-pub use table::new_table;
+pub use table::{MAX_CONTROLLERS, new_table};
 
 #[cfg(test)]
 mod tests;

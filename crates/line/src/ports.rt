@@ -1,3 +1,5 @@
+#![tactic(auto, unfolding(model::specs::Operations::refusal, model::specs::Operations::accepted, model::specs::Operations::then))]
+
 ghost use Rattle.std.specs.Prelude.{◌≡◌, length};
 ghost use Rattle.controller.specs.Refusal.{refused_as};
 ghost use Rattle.controller.specs.View.{nodes};
@@ -25,8 +27,7 @@ pub fn port_write(
     ensures loads { Loading }
 {
     check_controller(table.len(), controller)?;
-    let target = &mut table[controller];
-    target.write(register, bytes)
+    table[controller].write(register, bytes)
 }
 
 /// Reads so many bytes of a register of a controller into a buffer from a place on; the rest of it stays.
@@ -46,6 +47,5 @@ pub fn port_read(
     ensures buffer { buffer.new ≡ buffer_after (port_read controller register count place (length buffer.old)) (nodes table.old) buffer.old }
 {
     check_controller(table.len(), controller)?;
-    let target = &mut table[controller];
-    target.read(register, buffer, place, count)
+    table[controller].read(register, buffer, place, count)
 }

@@ -10,6 +10,7 @@ use controller::{Controller, Refusal};
 /// read, and answers how many bytes; the rest of the buffer stays, and so does the table, RX_ADDR too.
 ///
 /// Refused, by the first that fits: the table's size, the controller, no page ready. A refusal changes nothing.
+#[tactic(auto, unfolding(controller::specs::Look::page_from, controller::specs::Look::buffer_seen, model::specs::Calls::refuses_look, model::specs::Calls::looked, model::specs::Calls::buffer_looked))]
 pub fn look(
     table: &mut [Controller],
     controller: usize,
@@ -22,6 +23,5 @@ pub fn look(
     ensures count { IfOk result (λ n. n ≡ look_count controller place (nodes table.old) (length buffer.old)) }
 {
     check_controller(table.len(), controller)?;
-    let target = &mut table[controller];
-    target.look(place, buffer)
+    table[controller].look(place, buffer)
 }

@@ -16,11 +16,13 @@ fn refused_read(controller: usize, register: u8, place: usize, count: usize) -> 
     port_read(&mut table, controller, register, &mut buffer, place, count).err()
 }
 
-fn read_one(table: &mut [Controller], controller: usize, register: Register) -> Result<u8, Fail> {
+fn read_one(
+    table: &mut [Controller],
+    controller: usize,
+    register: Register,
+) -> Result<u8, Refusal> {
     let mut buffer = [0];
-    if port_read(table, controller, register.number(), &mut buffer, 0, 1).is_err() {
-        return Err(Fail::new("read refused"));
-    }
+    port_read(table, controller, register.number(), &mut buffer, 0, 1)?;
     Ok(buffer[0])
 }
 
@@ -29,22 +31,20 @@ fn write_one(
     controller: usize,
     register: Register,
     value: u8,
-) -> Result<(), Fail> {
-    if port_write(table, controller, register.number(), &[value]).is_err() {
-        return Err(Fail::new("write refused"));
-    }
-    Ok(())
+) -> Result<(), Refusal> {
+    port_write(table, controller, register.number(), &[value])
 }
 
 #[test]
-fn tables_have_1_to_16_places(rt: HostRuntime) {
+fn tables_have_1_to_16_places(rt: HostRuntime) -> Result<(), Fail> {
     assert_eq!(rt; new_table(&mut []).err(), Some(Refusal::TableSize));
     assert_eq!(rt;
         new_table(&mut [Controller::new(); 17]).err(),
         Some(Refusal::TableSize)
     );
-    assert!(rt; new_table(&mut [Controller::new(); 16]).is_ok());
-    assert!(rt; new_table(&mut [Controller::new(); 1]).is_ok());
+    new_table(&mut [Controller::new(); 16])?;
+    new_table(&mut [Controller::new(); 1])?;
+    Ok(())
 }
 
 #[test]
@@ -113,13 +113,13 @@ fn values_that_are_not_admitted(rt: HostRuntime) {
 #[test]
 fn a_start_wants_a_length_that_a_frame_has(rt: HostRuntime) -> Result<(), Fail> {
     let mut table = [Controller::new(); 1];
-    assert!(rt; port_write(&mut table, 0, 0x0C, &[0x0C, 0x0D, 254]).is_ok());
+    port_write(&mut table, 0, 0x0C, &[0x0C, 0x0D, 254])?;
     assert_eq!(rt;
         port_write(&mut table, 0, 0x0E, &[tx_ctrl::START]).err(),
         Some(Refusal::Value)
     );
     write_one(&mut table, 0, Register::TxCtrl, tx_ctrl::ZERO_POINTER)?;
-    assert!(rt; port_write(&mut table, 0, 0x0C, &[0x0C, 0x0D, 253]).is_ok());
+    port_write(&mut table, 0, 0x0C, &[0x0C, 0x0D, 253])?;
     write_one(&mut table, 0, Register::TxCtrl, tx_ctrl::START)?;
     assert_eq!(rt;
         read_one(&mut table, 0, Register::IntFlag)?,
@@ -181,7 +181,7 @@ fn a_read_puts_its_bytes_at_the_place(rt: HostRuntime) -> Result<(), Fail> {
     let mut table = [Controller::new(); 2];
     let mut buffer = [0xEE; 4];
     write_one(&mut table, 1, Register::RxAddr, 254)?;
-    assert!(rt; port_read(&mut table, 1, 0x0B, &mut buffer, 1, 2).is_ok());
+    port_read(&mut table, 1, 0x0B, &mut buffer, 1, 2)?;
     assert_eq!(rt; &buffer, &[0xEE, 0, 0, 0xEE]);
     assert_eq!(rt;
         read_one(&mut table, 1, Register::RxAddr)?,
@@ -206,7 +206,7 @@ fn int_n_is_low_where_flag_and_mask_share_a_bit(rt: HostRuntime) -> Result<(), F
     assert!(rt; table[0].int_n_low());
     write_one(&mut table, 0, Register::RxCtrl, rx_ctrl::RESET)?;
     assert!(rt; table[0].int_n_low(), "a reset keeps the mask");
-    assert!(rt; new_table(&mut table).is_ok());
+    new_table(&mut table)?;
     assert!(rt; !table[0].int_n_low(), "a new controller masks all");
     Ok(())
 }
@@ -218,4 +218,34 @@ fn names_give_numbers(rt: HostRuntime) {
     assert_eq!(rt; register_number("FILTER2"), Some(0x12));
     assert_eq!(rt; register_number("filter"), None);
     assert_eq!(rt; register_number(""), None);
+}
+
+#[test]
+fn registers_turn_into_numbers_and_back(rt: HostRuntime) {
+    assert_eq!(rt; u8::from(Register::Filter2), 0x12);
+    assert_eq!(rt; Register::try_from(0x12), Ok(Register::Filter2));
+    assert_eq!(rt; Register::try_from(0x13), Err(Refusal::NoRegister));
+}
+
+/// What callers may hold, and copy.
+#[derive(Clone, Copy)]
+struct Held {
+    controller: Controller,
+    answer: Answer,
+}
+
+fn is_quiet(held: Held) -> bool {
+    held.answer.level() && !held.controller.int_n_low()
+}
+
+#[test]
+fn controllers_and_answers_are_copied(rt: HostRuntime) -> Result<(), Fail> {
+    let mut table = [Controller::default(); 1];
+    let answer = bit_time(&mut table, false)?;
+    let held = Held {
+        controller: table[0],
+        answer,
+    };
+    assert!(rt; is_quiet(held) && is_quiet(held));
+    Ok(())
 }

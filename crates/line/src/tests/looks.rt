@@ -1,5 +1,7 @@
-use crate::{look, port_read, port_write};
+use super::{read_one, write_one};
+use crate::look;
 use controller::{Controller, Refusal, Register};
+use std::test::Fail;
 
 fn refused_look(table: &mut [Controller], controller: usize) -> Option<Refusal> {
     look(table, controller, 255, &mut [0; 2]).err()
@@ -23,11 +25,10 @@ fn a_look_is_refused_by_the_first_rule_that_fits(rt: HostRuntime) {
 }
 
 #[test]
-fn a_refused_look_changes_nothing(rt: HostRuntime) {
+fn a_refused_look_changes_nothing(rt: HostRuntime) -> Result<(), Fail> {
     let mut table = [Controller::new(); 2];
     let mut buffer = [0xEE; 4];
-    let address = Register::RxAddr.number();
-    assert!(rt; port_write(&mut table, 1, address, &[7]).is_ok());
+    write_one(&mut table, 1, Register::RxAddr, 7)?;
     assert_eq!(rt;
         look(&mut table, 1, 200, &mut buffer).err(),
         Some(Refusal::NoPageReady)
@@ -37,6 +38,10 @@ fn a_refused_look_changes_nothing(rt: HostRuntime) {
         Some(Refusal::NoController)
     );
     assert_eq!(rt; &buffer, &[0xEE; 4]);
-    assert!(rt; port_read(&mut table, 1, address, &mut buffer, 0, 1).is_ok());
-    assert_eq!(rt; buffer[0], 7, "RX_ADDR is put back");
+    assert_eq!(rt;
+        read_one(&mut table, 1, Register::RxAddr)?,
+        7,
+        "RX_ADDR is put back"
+    );
+    Ok(())
 }

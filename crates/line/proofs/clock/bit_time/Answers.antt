@@ -1,27 +1,15 @@
-use Rattle.model.specs.Operations.{bit_time}
-use Rattle.controller.specs.View.{nodes}
-use Rattle.line.specs.Answer.{answered_by}
-use Rattle.line.proofs.BitTimes.{bit_time-refusal, refused_outcome, made_outcome, made_then}
-use Rattle.line.proofs.Operations.{refused_then}
+use Rattle.std.proofs.Common.{rules, arith}
+use Rattle.std.proofs.lemmas.List.{length-map}
+use Rattle.controller.specs.View.{node}
+use Rattle.line.proofs.Views.{moved_more}
 use Rattle.line.proofs.clock.bit_time.Goals as goal
 
-pub returns-in_err-check_size : goal.returns-in_err-check_size
-returns-in_err-check_size c =
-    let table = c.args.table.now in
-    let pulled = c.args.pulled in
-    let why = c.in_err-check_size.field-0.0 in
-    let because = bit_time-refusal table pulled _ c.in_err-check_size.ensures in
+pub loop-number-preserved : goal.loop-number-preserved
+loop-number-preserved c =
+    let length-nodes = length-map c.args.table.now node in
     record {
-      answers = refused_outcome c.from_residual.result why pulled (nodes table) c.from_residual.ensures.1 because;
-      after = refused_then (bit_time pulled) (nodes table) why because;
-    }
-
-pub returns : goal.returns
-returns c =
-    let table = c.args.table.now in
-    let pulled = c.args.pulled in
-    let fine = bit_time-refusal table pulled 0 c.in_ok-check_size.ensures in
-    record {
-      answers = made_outcome (answered_by c.step.result) pulled (nodes table) fine c.step.ensures.answers;
-      after = made_then (nodes c.step.new.table) pulled (nodes table) fine c.step.ensures.after;
+      level = search rules;
+      moved = moved_more c.index-table-number.result c.tick.new.self c.tick.result _ c.loop-number.invariant.moved
+          (omega (arith, length-nodes)) (omega (arith, length-nodes)) c.tick.ensures.after c.tick.ensures.marks c.push.ensures.marks;
+      counted = omega (arith, c.push.ensures.controllers, c.loop-number.invariant.counted);
     }

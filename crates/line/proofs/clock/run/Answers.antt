@@ -1,32 +1,20 @@
-use Rattle.std.proofs.Common.{rules}
-use Rattle.model.specs.Calls.{refuses_run}
+use Rattle.std.proofs.Common.{◌≡◌, false, arith, below_more}
+use Rattle.std.proofs.lemmas.Grind.{common_steps}
+use Rattle.model.specs.Operations.{at, refusal, accepted, then}
+use Rattle.model.specs.Calls.{later}
+use Rattle.model.specs.RegisterRule.{interrupts}
 use Rattle.controller.specs.View.{nodes}
-use Rattle.controller.proofs.Outcomes.{refused_exit}
-use Rattle.line.specs.Runs.{times_of}
-use Rattle.line.proofs.BitTimes.{run_refusal, refused_run, made_run}
+use Rattle.line.proofs.BitTimes.{later_more, int_n_later}
 use Rattle.line.proofs.clock.run.Goals as goal
 
-pub returns-in_err-check_controller : goal.returns-in_err-check_controller
-returns-in_err-check_controller c =
-    let table = c.args.table.now in
+pub loop-made-preserved : goal.loop-made-preserved
+unfolding refusal accepted then
+loop-made-preserved c =
+    let t = nodes c.args.table.now in
     let k = c.args.controller in
-    let r = c.from_residual.result in
-    let why = c.in_err-check_controller.field-0.0 in
-    let because = run_refusal k table _ c.in_err-check_controller.ensures in
+    let found = c.in_ok-check_controller.ensures in
     record {
-      refuses = refused_exit r why (refuses_run k (nodes table)) c.from_residual.ensures.1 because;
-      runs = search rules;
-      after = refused_run k (times_of r) (nodes table) why because;
-    }
-
-pub returns : goal.returns
-returns c =
-    let table = c.args.table.now in
-    let k = c.args.controller in
-    let n = c.step_until_low.result in
-    let fine = run_refusal k table 0 c.in_ok-check_controller.ensures in
-    record {
-      refuses = fine;
-      runs = c.step_until_low.ensures.runs;
-      after = made_run k n (nodes table) (nodes c.step_until_low.new.table) fine c.step_until_low.ensures.after;
+      table = grind (arith, common_steps, later_more c.loop-made.made t, c.bit_time.ensures.after, found);
+      high = below_more (λ m. interrupts (at (later m t) k) ≡ false) c.loop-made.made c.loop-made.invariant.high
+          (int_n_later c.loop-made.table t k c.loop-made.made c.index-table-controller.result false (omega (arith, found.1)) c.loop-made.invariant.table c.if-int_n_low.ensures);
     }

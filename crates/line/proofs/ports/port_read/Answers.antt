@@ -1,39 +1,37 @@
-use Rattle.std.proofs.Common.{length}
-use Rattle.model.specs.Operations.{read, refusal}
-use Rattle.controller.specs.View.{nodes}
-use Rattle.controller.proofs.Outcomes.{refused_exit}
-use Rattle.line.proofs.Operations.{refused_then, read_refused_first, read_refused_buffer, read_refusal, read_then, read_buffer}
+use Rattle.std.proofs.Common.{length, sym, ap, ◌∙◌, arith}
+use Rattle.std.proofs.lemmas.List.{get_or-map}
+use Rattle.std.proofs.lemmas.Grind.{common_steps}
+use Rattle.controller.specs.Bursts.{after_read, buffer_read}
+use Rattle.controller.specs.View.{node, nodes}
+use Rattle.model.specs.Controller.{new}
+use Rattle.model.specs.Operations.{read, refusal, accepted, then, done}
+use Rattle.model.specs.RegisterRule.{gives_all, leaves_all}
+use Rattle.model.specs.Registers.{register_of}
+use Rattle.line.proofs.Buffers.{buffer_either, buffer_kept}
+use Rattle.line.proofs.Views.{changed_or_not}
 use Rattle.line.proofs.ports.port_read.Goals as goal
 
-pub returns-in_err-check_controller : goal.returns-in_err-check_controller
-returns-in_err-check_controller c =
-    let t = nodes c.args.table.now in
-    let k = c.args.controller in
-    let r = c.args.register in
-    let n = c.args.count in
-    let place = c.args.place in
+pub returns-in_err-check_controller-clause-buffer : goal.returns-in_err-check_controller-clause-buffer
+unfolding accepted refusal
+returns-in_err-check_controller-clause-buffer c =
     let buffer = c.args.buffer.now in
-    let o = read k r n place (length buffer) in
-    let why = c.in_err-check_controller.field-0.0 in
-    let because = read_refused_first c.args.table.now k r n place (length buffer) why c.in_err-check_controller.ensures in
-    record {
-      refuses = refused_exit c.from_residual.result why (refusal o t) c.from_residual.ensures.1 because;
-      after = refused_then o t why because;
-      buffer = read_refused_buffer t k r n place buffer why because;
-    }
+    buffer_kept (read c.args.controller c.args.register c.args.count c.args.place (length buffer)) (nodes c.args.table.now) buffer
+    (grind (arith, common_steps, c.in_err-check_controller.ensures))
 
-pub returns : goal.returns
-returns c =
-    let table = c.args.table.now in
-    let k = c.args.controller in
-    let r = c.args.register in
-    let n = c.args.count in
-    let place = c.args.place in
+pub returns-clause-refuses : goal.returns-clause-refuses
+unfolding refusal
+returns-clause-refuses c = grind (arith, common_steps)
+
+pub returns-clause-after : goal.returns-clause-after
+unfolding after_read accepted then done
+returns-clause-after c =
+    changed_or_not node new (leaves_all (register_of c.args.register) c.args.count) c.args.table.now c.args.controller _ _ _ c.read.new.self
+    c.in_ok-check_controller.ensures.1 c.read.ensures.after (sym c.read.ensures.refuses ∙ returns-clause-refuses c)
+
+pub returns-clause-buffer : goal.returns-clause-buffer
+unfolding buffer_read
+returns-clause-buffer c =
     let buffer = c.args.buffer.now in
-    let d = c.index-table-controller.result in
-    let none = c.in_ok-check_controller.ensures in
-    record {
-      refuses = read_refusal table k r n place (length buffer) _ none c.read.ensures.refuses;
-      after = read_then table k r n place (length buffer) d c.read.new.self none c.read.ensures.after;
-      buffer = read_buffer table k r n place buffer c.read.new.buffer d none c.read.ensures.buffer;
-    }
+    let here = get_or-map node c.args.table.now c.args.controller c.index-table-controller.result new c.in_ok-check_controller.ensures.1 in
+    buffer_either (read c.args.controller c.args.register c.args.count c.args.place (length buffer)) (nodes c.args.table.now) buffer _ _ _
+    c.read.ensures.buffer (sym c.read.ensures.refuses ∙ returns-clause-refuses c) (ap (gives_all (register_of c.args.register) c.args.count) (sym here))

@@ -1,32 +1,27 @@
-use Rattle.model.specs.Operations.{write, refusal}
+use Rattle.std.proofs.Common.{sym, ◌∙◌, arith}
+use Rattle.std.proofs.lemmas.Grind.{common_steps}
+use Rattle.controller.specs.Bursts.{after_write}
+use Rattle.controller.specs.View.{node}
+use Rattle.model.specs.Controller.{new}
+use Rattle.model.specs.Operations.{refusal, accepted, then, done}
 use Rattle.model.proofs.Loading.{all_loaded}
-use Rattle.controller.specs.View.{nodes}
-use Rattle.controller.proofs.Outcomes.{refused_exit}
-use Rattle.line.proofs.Operations.{refused_then, write_refused_first, write_refusal, write_then}
+use Rattle.model.specs.RegisterRule.{writes_all}
+use Rattle.model.specs.Registers.{register_of}
+use Rattle.line.proofs.Views.{changed_or_not}
 use Rattle.line.proofs.ports.port_write.Goals as goal
 
-pub returns-in_err-check_controller : goal.returns-in_err-check_controller
-returns-in_err-check_controller c =
-    let table = c.args.table.now in
-    let o = write c.args.controller c.args.register c.args.bytes.now in
-    let why = c.in_err-check_controller.field-0.0 in
-    let because = write_refused_first table c.args.controller c.args.register c.args.bytes.now why c.in_err-check_controller.ensures in
-    record {
-      refuses = refused_exit c.from_residual.result why (refusal o (nodes table)) c.from_residual.ensures.1 because;
-      after = refused_then o (nodes table) why because;
-      loads = all_loaded;
-    }
+pub returns-in_err-check_controller-clause-loads : goal.returns-in_err-check_controller-clause-loads
+returns-in_err-check_controller-clause-loads c = all_loaded
 
-pub returns : goal.returns
-returns c =
-    let table = c.args.table.now in
-    let k = c.args.controller in
-    let r = c.args.register in
-    let vs = c.args.bytes.now in
-    let d = c.index-table-controller.result in
-    let none = c.in_ok-check_controller.ensures in
-    record {
-      refuses = write_refusal table k r vs d _ none c.write.ensures.refuses;
-      after = write_then table k r vs d c.write.new.self none c.write.ensures.after;
-      loads = all_loaded;
-    }
+pub returns-clause-refuses : goal.returns-clause-refuses
+unfolding refusal
+returns-clause-refuses c = grind (arith, common_steps)
+
+pub returns-clause-after : goal.returns-clause-after
+unfolding after_write accepted then done
+returns-clause-after c =
+    changed_or_not node new (writes_all (register_of c.args.register) c.args.bytes.now) c.args.table.now c.args.controller _ _ _ c.write.new.self
+    c.in_ok-check_controller.ensures.1 c.write.ensures.after (sym c.write.ensures.refuses ∙ returns-clause-refuses c)
+
+pub returns-clause-loads : goal.returns-clause-loads
+returns-clause-loads c = all_loaded

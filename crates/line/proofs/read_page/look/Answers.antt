@@ -1,34 +1,15 @@
-use Rattle.std.proofs.Common.{length, refl, rules}
-use Rattle.model.specs.Calls.{refuses_look}
-use Rattle.controller.specs.View.{nodes}
-use Rattle.controller.proofs.Outcomes.{refused_exit}
-use Rattle.line.proofs.Operations.{look_refused_first, look_refused_buffer, look_refusal, look_leaves, look_buffer, look_counted}
+use Rattle.std.proofs.lemmas.List.{get_or-map}
+use Rattle.model.specs.Calls.{look_count, looked}
+use Rattle.model.specs.Controller.{new}
+use Rattle.controller.specs.Look.{page_from}
+use Rattle.controller.specs.View.{node}
+use Rattle.std.proofs.Math.Seq.{map-set_same}
 use Rattle.line.proofs.read_page.look.Goals as goal
 
-pub returns-in_err-check_controller : goal.returns-in_err-check_controller
-returns-in_err-check_controller c =
-    let t = nodes c.args.table.now in
-    let k = c.args.controller in
-    let why = c.in_err-check_controller.field-0.0 in
-    let because = look_refused_first c.args.table.now k why c.in_err-check_controller.ensures in
-    record {
-      refuses = refused_exit c.from_residual.result why (refuses_look k t) c.from_residual.ensures.1 because;
-      after = refl;
-      buffer = look_refused_buffer t k c.args.place c.args.buffer.now why because;
-      count = search rules;
-    }
+pub returns-clause-after : goal.returns-clause-after
+returns-clause-after c = map-set_same node c.args.table.now c.args.controller c.look.new.self _ c.look.ensures.after
 
-pub returns : goal.returns
-returns c =
-    let table = c.args.table.now in
-    let k = c.args.controller in
-    let place = c.args.place in
-    let buffer = c.args.buffer.now in
-    let d = c.index-table-controller.result in
-    let none = c.in_ok-check_controller.ensures in
-    record {
-      refuses = look_refusal table k d _ none c.look.ensures.refuses;
-      after = look_leaves table k d c.look.new.self none c.look.ensures.after;
-      buffer = look_buffer table k place buffer c.look.new.buffer d none c.look.ensures.buffer;
-      count = look_counted table k place (length buffer) d c.look.result none c.look.ensures.count;
-    }
+pub returns-clause-count : goal.returns-clause-count
+unfolding page_from look_count looked
+returns-clause-count c =
+    rw (get_or-map node c.args.table.now c.args.controller c.index-table-controller.result new c.in_ok-check_controller.ensures.1) c.look.ensures.count
