@@ -1,27 +1,25 @@
 -- What becomes of a message on the line.
-use Rattle.std.specs.Prelude.{◌≡◌, ℕ, Bool, List, length, vec_items}
+use Rattle.std.specs.Prelude.{◌≡◌, ℕ, Bool, List, length, Some, None, Option, vec_items}
 use Rattle.model.specs.Frames.{Message, framed, frame_levels}
 use Rattle.model.specs.Disturbance.{pulled_low, ShortBurst}
 use Rattle.model.specs.Codec.{after_idle}
 use Rattle.model.specs.Reading.{heard}
 use Rattle.frame.specs.Read.{ReadAs}
 use Rattle.frame.specs.declared.reader.read.Reading.{Reading}
-use Rattle.frame.specs.declared.reader.read.Reading.TheVariants.{Right, Broken, Unfinished}
+use Rattle.frame.specs.declared.reader.Ending.TheVariants.{Right}
 use Rattle.order.specs.declared.burst.Burst.{Burst}
 use Rattle.order.specs.declared.delivery.Delivery.{Delivery}
 use Rattle.order.specs.Burst.{pulls}
 
 -- it reads as right with the message's frame, at the last level
-abbrev pub ReadsRight : List ℕ → List Bool → Reading → Type 0
-ReadsRight m ls (Right bytes n) = (vec_items bytes ≡ framed m) × (n ≡ length ls)
-ReadsRight m ls (Broken bytes n) = ⊥
-ReadsRight m ls Unfinished = ⊥
+abbrev pub ReadsRight : List ℕ → List Bool → Option Reading → Type 0
+ReadsRight m ls (Some r) = (r.ending ≡ Right) × (vec_items r.bytes ≡ framed m) × (r.levels ≡ length ls)
+ReadsRight m ls None = ⊥
 
 -- if it reads as right, then with the message's frame
-abbrev pub NeverOther : List ℕ → Reading → Type 0
-NeverOther m (Right bytes n) = vec_items bytes ≡ framed m
-NeverOther m (Broken bytes n) = Unit {0}
-NeverOther m Unfinished = Unit {0}
+abbrev pub NeverOther : List ℕ → Option Reading → Type 0
+NeverOther m (Some r) = r.ending ≡ Right → vec_items r.bytes ≡ framed m
+NeverOther m None = Unit {0}
 
 -- the reading is what the rules make of the levels
 abbrev pub ReadSo : Delivery → Type 0

@@ -25,18 +25,21 @@ pub struct CutOrder {
     pub lines: [SizeLine; SIZES],
 }
 
-fn push_line(bytes: &mut Vec<u8>, line: SizeLine) -> Result<(), AllocError>
-    ensures { OnOk result (bytes.new.items ≡ bytes.old.items ++ line_bytes line) }
-{
-    let [low, high] = line.plies.to_le_bytes();
-    bytes.extend_from_slice(&[line.size, low, high, line.pieces])
+impl SizeLine {
+    /// The line as bytes of an order.
+    fn to_bytes(self) -> [u8; 4]
+        ensures { result ≡ line_bytes self }
+    {
+        let [low, high] = self.plies.to_le_bytes();
+        [self.size, low, high, self.pieces]
+    }
 }
 
 fn push_lines(bytes: &mut Vec<u8>, lines: &[SizeLine]) -> Result<(), AllocError>
     ensures { OnOk result (bytes.new.items ≡ bytes.old.items ++ flat_map line_bytes lines.now) }
 {
     for line in lines {
-        push_line(bytes, *line)?;
+        bytes.extend_from_slice(&line.to_bytes())?;
     }
     Ok(())
 }

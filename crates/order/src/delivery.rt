@@ -10,7 +10,8 @@ use std::alloc::{AllocError, Global};
 #[derive(Drop)]
 pub struct Delivery {
     pub levels: Vec<bool>,
-    pub reading: Reading,
+    /// Nothing if the frame has not ended.
+    pub reading: Option<Reading>,
 }
 
 /// What a receiver makes of levels that it hears after an idle line.
@@ -34,8 +35,7 @@ fn pulled_levels(heap: Global, message: &[u8], burst: &Burst) -> Result<Vec<bool
     ensures { MatchResult result (λ v. PulledFrame message.now burst.now v.items) (Fault message.now) }
 {
     let sent = frame_levels(heap, message)?;
-    let pulled = burst.pull(heap, &sent)?;
-    Ok(pulled)
+    Ok(burst.pull(heap, &sent)?)
 }
 
 /// Sends a message over a line that a burst pulls: it reads as the rules say, and never as another message.
