@@ -10,108 +10,124 @@ const STATIONS: usize = 4;
 /// INT_FLAG bit 4: no page waits.
 const NONE_WAITS: u8 = 0x10;
 
-fn read(table: &mut [Controller], controller: usize, register: u8) -> Result<u8, Refusal> {
-    let mut value = [0];
-    port_read(table, controller, register, &mut value, 0, 1)?;
-    Ok(value[0])
+/// The hosts of the stations, who tell what they do with their controllers.
+#[derive(Drop)]
+pub(crate) struct Hosts<'a> {
+    rt: &'a HostRuntime,
+    table: [Controller; STATIONS],
 }
 
-/// Writes a message into the TX page from place 0 on, byte by byte.
-fn load(table: &mut [Controller], controller: usize, message: &[u8]) -> Result<(), Refusal> {
-    let zero = [tx_ctrl::ZERO_POINTER];
-    port_write(table, controller, Register::TxCtrl.number(), &zero)?;
-    for byte in message {
-        port_write(table, controller, Register::Tx.number(), &[*byte])?;
-    }
-    Ok(())
-}
-
-fn start(table: &mut [Controller], controller: usize) -> Result<(), Refusal> {
-    port_write(
-        table,
-        controller,
-        Register::TxCtrl.number(),
-        &[tx_ctrl::START],
-    )
-}
-
-/// What a register reads, found by its name.
-fn tell_register(
-    rt: &HostRuntime,
-    table: &mut [Controller],
-    station: Station,
-    name: &str,
-) -> anyhow::Result<()> {
-    let Some(number) = register_number(name) else {
-        println!(rt; "     {name} is no register")?;
-        return Ok(());
-    };
-    let value = read(table, station.controller, number)?;
-    println!(rt; "     {name:<13} 0x{number:02X} reads 0x{value:02X}")?;
-    Ok(())
-}
-
-fn tell_waiting(
-    rt: &HostRuntime,
-    table: &mut [Controller],
-    station: Station,
-) -> anyhow::Result<()> {
-    let flags = read(table, station.controller, Register::IntFlag.number())?;
-    let page = if flags & NONE_WAITS == 0 {
-        "a page"
-    } else {
-        "no page"
-    };
-    println!(rt; "     INT_FLAG reads 0x{flags:02X}: {page} waits")?;
-    Ok(())
-}
-
-fn tell_start(rt: &HostRuntime, table: &mut [Controller], station: Station) -> anyhow::Result<()> {
-    match start(table, station.controller) {
-        Ok(()) => println!(rt; "     START is taken")?,
-        Err(refusal) => {
-            let number = refusal.number();
-            println!(rt; "     START is refused with {number}: {refusal}")?;
+impl<'a> Hosts<'a> {
+    pub(crate) fn new(rt: &'a HostRuntime) -> Hosts<'a> {
+        Hosts {
+            rt,
+            table: [Controller::new(); STATIONS],
         }
     }
-    tell_waiting(rt, table, station)
-}
 
-fn tell_registers(rt: &HostRuntime, table: &mut [Controller]) -> anyhow::Result<()> {
-    let own = [PLANNER.address];
-    port_write(table, PLANNER.controller, Register::Filter.number(), &own)?;
-    println!(rt;
-        "\n3. The planner's host sets FILTER in its controller, and reads registers by their names:"
-    )?;
-    for name in ["VERSION", "IDLE_WAIT_LEN", "TX_WAIT_LEN", "FILTER", "SPEED"] {
-        tell_register(rt, table, PLANNER, name)?;
+    fn read(&mut self, station: Station, register: u8) -> Result<u8, Refusal> {
+        let mut value = [0];
+        port_read(
+            &mut self.table,
+            station.controller,
+            register,
+            &mut value,
+            0,
+            1,
+        )?;
+        Ok(value[0])
     }
-    tell_waiting(rt, table, PLANNER)
-}
 
-fn tell_order(rt: &HostRuntime, table: &mut [Controller], message: &[u8]) -> anyhow::Result<()> {
-    load(table, PLANNER.controller, message)?;
-    let count = message.len();
-    println!(rt;
-        "   It writes the {count} bytes of the message to TX, one by one, and START to TX_CTRL:"
-    )?;
-    tell_start(rt, table, PLANNER)
-}
+    fn write(&mut self, station: Station, register: Register, bytes: &[u8]) -> Result<(), Refusal> {
+        port_write(
+            &mut self.table,
+            station.controller,
+            register.number(),
+            bytes,
+        )
+    }
 
-fn tell_too_long(rt: &HostRuntime, table: &mut [Controller]) -> anyhow::Result<()> {
-    let message = [PLOTTER.address, PLANNER.address, 254];
-    load(table, PLOTTER.controller, &message)?;
-    println!(rt;
-        "   The plotter's host tries the same with a length byte that no frame has, 254:"
-    )?;
-    tell_start(rt, table, PLOTTER)
-}
+    /// Writes a message into the TX page from place 0 on, byte by byte.
+    fn load(&mut self, station: Station, message: &[u8]) -> Result<(), Refusal> {
+        self.write(station, Register::TxCtrl, &[tx_ctrl::ZERO_POINTER])?;
+        for byte in message {
+            self.write(station, Register::Tx, &[*byte])?;
+        }
+        Ok(())
+    }
 
-/// The order STARTed at the planner, and a page at the plotter that cannot be.
-pub(crate) fn tell_loading(rt: &HostRuntime, message: &[u8]) -> anyhow::Result<()> {
-    let mut table = [Controller::new(); STATIONS];
-    new_table(&mut table)?;
-    tell_registers(rt, &mut table)?;
-    tell_order(rt, &mut table, message)?;
-    tell_too_long(rt, &mut table)
+    /// What a register reads, found by its name.
+    fn tell_register(&mut self, station: Station, name: &str) -> anyhow::Result<()> {
+        let rt = self.rt;
+        let Some(number) = register_number(name) else {
+            println!(rt; "     {name} is no register")?;
+            return Ok(());
+        };
+        let value = self.read(station, number)?;
+        println!(rt; "     {name:<13} 0x{number:02X} reads 0x{value:02X}")?;
+        Ok(())
+    }
+
+    fn tell_waiting(&mut self, station: Station) -> anyhow::Result<()> {
+        let rt = self.rt;
+        let flags = self.read(station, Register::IntFlag.number())?;
+        let page = if flags & NONE_WAITS == 0 {
+            "a page"
+        } else {
+            "no page"
+        };
+        println!(rt; "     INT_FLAG reads 0x{flags:02X}: {page} waits")?;
+        Ok(())
+    }
+
+    fn tell_start(&mut self, station: Station) -> anyhow::Result<()> {
+        let rt = self.rt;
+        match self.write(station, Register::TxCtrl, &[tx_ctrl::START]) {
+            Ok(()) => println!(rt; "     START is taken")?,
+            Err(refusal) => {
+                let number = refusal.number();
+                println!(rt; "     START is refused with {number}: {refusal}")?;
+            }
+        }
+        self.tell_waiting(station)
+    }
+
+    fn tell_registers(&mut self) -> anyhow::Result<()> {
+        let rt = self.rt;
+        self.write(PLANNER, Register::Filter, &[PLANNER.address])?;
+        println!(rt;
+            "\n3. The planner's host sets FILTER in its controller, and reads registers by their names:"
+        )?;
+        for name in ["VERSION", "IDLE_WAIT_LEN", "TX_WAIT_LEN", "FILTER", "SPEED"] {
+            self.tell_register(PLANNER, name)?;
+        }
+        self.tell_waiting(PLANNER)
+    }
+
+    fn tell_order(&mut self, message: &[u8]) -> anyhow::Result<()> {
+        let rt = self.rt;
+        self.load(PLANNER, message)?;
+        let count = message.len();
+        println!(rt;
+            "   It writes the {count} bytes of the message to TX, one by one, and START to TX_CTRL:"
+        )?;
+        self.tell_start(PLANNER)
+    }
+
+    fn tell_too_long(&mut self) -> anyhow::Result<()> {
+        let rt = self.rt;
+        self.load(PLOTTER, &[PLOTTER.address, PLANNER.address, 254])?;
+        println!(rt;
+            "   The plotter's host tries the same with a length byte that no frame has, 254:"
+        )?;
+        self.tell_start(PLOTTER)
+    }
+
+    /// The order STARTed at the planner, and a page at the plotter that cannot be.
+    pub(crate) fn tell_loading(&mut self, message: &[u8]) -> anyhow::Result<()> {
+        new_table(&mut self.table)?;
+        self.tell_registers()?;
+        self.tell_order(message)?;
+        self.tell_too_long()
+    }
 }

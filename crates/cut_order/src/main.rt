@@ -7,24 +7,24 @@ mod screen;
 mod story;
 mod tally;
 
-use order::deliver;
+use loading::Hosts;
 use screen::{ORDER, PLANNER, SPREADER};
+use story::Story;
 
 fn follow(rt: &HostRuntime) -> anyhow::Result<()> {
-    let heap = rt.alloc();
     println!(rt; "A cut order, followed from the nesting screen on.")?;
-    let message = ORDER.message(heap, PLANNER.address, SPREADER.address)?;
-    story::tell_order(rt, &ORDER, &message)?;
-    story::tell_frame(rt, &message)?;
-    loading::tell_loading(rt, &message)?;
-    let delivery = deliver(heap, &message)?;
-    story::tell_levels(rt, &delivery)?;
-    story::tell_arbitration(rt)?;
-    story::tell_reading(rt, &message, &delivery)?;
-    story::tell_filters(rt, &message)?;
-    story::tell_burst(rt, &message)?;
-    story::tell_all_bursts(rt, &message, delivery.levels.len())?;
-    story::tell_promises(rt)?;
+    let message = ORDER.message(rt.alloc(), PLANNER.address, SPREADER.address)?;
+    let story = Story::new(rt, &message)?;
+    story.tell_order(&ORDER)?;
+    story.tell_frame()?;
+    Hosts::new(rt).tell_loading(&message)?;
+    story.tell_levels()?;
+    story.tell_arbitration()?;
+    story.tell_reading()?;
+    story.tell_filters()?;
+    story.tell_bursts()?;
+    story.tell_all_bursts()?;
+    story.tell_promises()?;
     Ok(())
 }
 

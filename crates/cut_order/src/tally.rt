@@ -2,12 +2,12 @@
 ghost use Rattle.std.specs.Prelude.{◌≡◌, IfOk};
 ghost use Rattle.order.specs.Delivery.{NeverOther};
 
-use frame::{MessageError, Reading};
+use frame::{Ending, MessageError, Reading};
 use order::{Burst, deliver_disturbed};
 use std::alloc::Global;
 
 /// How often a disturbed frame read as the message, as another, or not as right.
-#[derive(Clone, Copy)]
+#[derive(Clone, Copy, Default)]
 pub struct Tally {
     pub bursts: usize,
     pub same: usize,
@@ -18,24 +18,24 @@ pub struct Tally {
 
 impl Tally {
     /// One reading more, of levels that never read as another message.
-    fn note(&mut self, message: &[u8], reading: &Reading)
+    fn note(&mut self, message: &[u8], reading: &Option<Reading>)
         requires { NeverOther message.now reading.now }
         ensures { self.new.other ≡ self.old.other }
     {
         self.bursts = self.bursts.saturating_add(1);
-        match reading {
-            Reading::Right { bytes, levels: _ } => {
-                if bytes.as_slice().starts_with(message) {
+        let Some(reading) = reading else {
+            self.unfinished = self.unfinished.saturating_add(1);
+            return;
+        };
+        match reading.ending {
+            Ending::Broken => self.broken = self.broken.saturating_add(1),
+            Ending::Right => {
+                if reading.bytes.as_slice().starts_with(message) {
                     self.same = self.same.saturating_add(1);
                 } else {
                     self.other = self.other.saturating_add(1);
                 }
             }
-            Reading::Broken {
-                bytes: _,
-                levels: _,
-            } => self.broken = self.broken.saturating_add(1),
-            Reading::Unfinished => self.unfinished = self.unfinished.saturating_add(1),
         }
     }
 }
@@ -49,18 +49,10 @@ pub(crate) fn every_burst(
 ) -> Result<Tally, MessageError>
     ensures { IfOk result (λ t. t.other ≡ 0) }
 {
-    let mut tally = Tally {
-        bursts: 0,
-        same: 0,
-        other: 0,
-        broken: 0,
-        unfinished: 0,
-    };
-    for start in 0..places {
-        if let Some(burst) = Burst::new(start, count) {
-            let delivery = deliver_disturbed(heap, message, &burst)?;
-            tally.note(message, &delivery.reading);
-        }
+    let mut tally = Tally::default();
+    for burst in (0..places).filter_map(|start| Burst::new(start, count)) {
+        let delivery = deliver_disturbed(heap, message, &burst)?;
+        tally.note(message, &delivery.reading);
     }
     Ok(tally)
 }
