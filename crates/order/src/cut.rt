@@ -8,7 +8,7 @@ use std::alloc::{AllocError, Global};
 pub const SIZES: usize = 23;
 
 /// The data bytes of an order: four for the marker and four for each size.
-const DATA: u8 = 96;
+const DATA: u8 = 4 + 4 * SIZES as u8;
 
 /// One size of a marker: the plies that are laid for it, and the pieces that are cut from each.
 #[derive(Clone, Copy)]

@@ -1,11 +1,11 @@
 //! A line on which one controller sends frames back to back.
 
 use controller::{Controller, Marks, Refusal, Register, rx_ctrl, tx_ctrl};
-use frame::MAX_DATA;
+use frame::{HEADER_BYTES, MAX_DATA};
 use line::{MAX_CONTROLLERS, bit_time, port_write};
 
-/// The bytes of a page, all of them sent: header and 253 data bytes.
-const PAGE: usize = 256;
+/// The bytes of the longest message, which fills a page.
+const LONGEST: usize = HEADER_BYTES + MAX_DATA as usize;
 
 /// Who sends.
 const SENDER: usize = 0;
@@ -40,10 +40,8 @@ impl Traffic<'_> {
 
     /// The same message in both TX pages, and the first of them waits.
     fn load(&mut self) -> Result<(), Refusal> {
-        let mut message = [0x55; PAGE];
-        message[0] = 0x0C;
-        message[1] = 0xFF;
-        message[2] = MAX_DATA;
+        let mut message = [0x55; LONGEST];
+        message[..HEADER_BYTES].copy_from_slice(&[0x0C, 0xFF, MAX_DATA]);
         self.write(SENDER, Register::Tx, &message)?;
         self.start()?;
         self.write(SENDER, Register::Tx, &message)
