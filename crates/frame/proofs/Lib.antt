@@ -1,4 +1,4 @@
 pub mod Reversed
 pub mod Fed
 pub mod Steps
-pub mod Placed
+pub mod EachByte

@@ -1,11 +1,13 @@
-ghost use Rattle.std.specs.Prelude.{◌≡◌, ◌+◌, ◌*◌, true, length, map, slice_index_or, Some, IfOk, MatchResult};
-ghost use Rattle.std.specs.List.{range_with_len};
+ghost use Rattle.std.specs.Prelude.{◌≡◌, [], ◌∷◌, Some, IfOk, MatchResult};
+ghost use Rattle.std.specs.List.{flat_map};
 ghost use Rattle.frame.specs.Message.{Fault, says};
 ghost use Rattle.frame.specs.declared.message.MessageError.TheVariants.{NoMemory};
-ghost use Rattle.model.specs.Frames.{Message, frame_levels};
+ghost use Rattle.model.specs.Frames.{Message, framed, frame_levels};
+ghost use Rattle.model.specs.Levels.{levels as levels_of};
 
-use crate::header::{HEADER_BYTES, Header};
-use crate::level::{BYTE_LEVELS, frame_level};
+use crate::checksum::crc;
+use crate::header::Header;
+use crate::level::{BYTE_LEVELS, byte_levels};
 use std::alloc::{AllocError, Global};
 use std::error::Error;
 use std::fmt;
@@ -67,14 +69,16 @@ fn check(message: &[u8]) -> Result<(), MessageError>
     Ok(())
 }
 
-/// The levels of a message and its CRC, each by its place.
+/// The levels of a message and its CRC, byte by byte.
 fn levels_of_frame(heap: Global, message: &[u8]) -> Result<Vec<bool>, AllocError>
     requires { Message message.now }
-    ensures { IfOk result (λ v. v.items ≡ map (λ p. slice_index_or (frame_levels message.now) p true) (range_with_len 0 (10 * (length message.now + 2)))) }
+    ensures { IfOk result (λ v. v.items ≡ flat_map (λ byte. levels_of (byte ∷ [])) (framed message.now)) }
 {
-    (0..BYTE_LEVELS * (message.len() + CRC_BYTES))
-        .map(|place| frame_level(message, place))
-        .collect(heap)
+    let mut levels = Vec::with_capacity(heap, BYTE_LEVELS * (message.len() + CRC_BYTES))?;
+    for byte in message.iter().chain(&crc(message).to_le_bytes()) {
+        levels.extend_from_slice(&byte_levels(*byte))?;
+    }
+    Ok(levels)
 }
 
 /// The levels of the frame that carries a message.

@@ -12,6 +12,9 @@ use crate::message::{CRC_BYTES, MAX_DATA};
 use crate::reader::{Ending, FrameReader, LONGEST, Phase};
 
 /// Whether the two last bytes are the CRC of those before, low byte first.
+// Once a frame: out of line, it leaves the levels short where `hear` stands in a loop.
+#[cold]
+#[inline(never)]
 #[tactic(auto, unfolding(model::specs::Reading::crc_right))]
 fn crc_matches(frame: &[u8]) -> bool
     requires { 2 ≤ length frame.now }
