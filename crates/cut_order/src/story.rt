@@ -9,28 +9,25 @@ use frame::{
     reversed_source,
 };
 use model::worked_examples;
-use order::{Burst, CutOrder, Delivery, deliver, deliver_disturbed};
+use order::{Burst, CutOrder, Delivery, deliver_disturbed};
 
-/// An order's message, and what became of it on a quiet line.
+/// An order's message, of which all is told.
 #[derive(Drop)]
 pub(crate) struct Story<'a> {
     rt: &'a HostRuntime,
     message: &'a [u8],
     header: Header,
     data: &'a [u8],
-    delivery: Delivery,
 }
 
 impl<'a> Story<'a> {
     pub(crate) fn new(rt: &'a HostRuntime, message: &'a [u8]) -> anyhow::Result<Story<'a>> {
         let (header, data) = Header::split(message).context("the message has no header")?;
-        let delivery = deliver(rt.alloc(), message)?;
         Ok(Story {
             rt,
             message,
             header,
             data,
-            delivery,
         })
     }
 
@@ -69,9 +66,9 @@ impl<'a> Story<'a> {
         Ok(())
     }
 
-    pub(crate) fn tell_levels(&self) -> anyhow::Result<()> {
+    pub(crate) fn tell_levels(&self, delivery: &Delivery) -> anyhow::Result<()> {
         let rt = self.rt;
-        let Delivery { levels, reading } = &self.delivery;
+        let Delivery { levels, reading } = delivery;
         let Some(
             Reading {
                 ending: Ending::Right,
@@ -160,15 +157,15 @@ impl<'a> Story<'a> {
         Ok(())
     }
 
-    pub(crate) fn tell_reading(&self) -> anyhow::Result<()> {
+    pub(crate) fn tell_reading(&self, delivery: &Delivery) -> anyhow::Result<()> {
         let rt = self.rt;
         println!(rt;
             "\n6. Once the plotter has sent its frame, the order goes out. A receiver that was idle reads:"
         )?;
-        let levels = self.delivery.levels.as_slice();
+        let levels = delivery.levels.as_slice();
         let (_, most) = levels.split_last().context("the frame has no levels")?;
         self.tell_as("all but the last", read_frame(rt.alloc(), most)?.as_ref())?;
-        self.tell_as("all of them", self.delivery.reading.as_ref())
+        self.tell_as("all of them", delivery.reading.as_ref())
     }
 
     fn tell_filter(&self, station: Station) -> anyhow::Result<()> {
@@ -211,7 +208,7 @@ impl<'a> Story<'a> {
         Ok(())
     }
 
-    pub(crate) fn tell_all_bursts(&self) -> anyhow::Result<()> {
+    pub(crate) fn tell_all_bursts(&self, places: usize) -> anyhow::Result<()> {
         let rt = self.rt;
         for count in [1, 4, 16] {
             let Tally {
@@ -220,7 +217,7 @@ impl<'a> Story<'a> {
                 other,
                 broken,
                 unfinished,
-            } = every_burst(rt.alloc(), self.message, self.delivery.levels.len(), count)?;
+            } = every_burst(rt.alloc(), self.message, places, count)?;
             println!(rt;
                 "   Pulls of length {count} at each of {bursts} places, clear of the length byte:"
             )?;
