@@ -1,3 +1,4 @@
+pub mod Control
 pub mod Outcomes
 pub mod Copies
 pub mod Look
