@@ -12,7 +12,7 @@ use crate::message::{CRC_BYTES, MAX_DATA};
 use crate::reader::{Ending, FrameReader, LONGEST, Phase};
 
 /// Whether the two last bytes are the CRC of those before, low byte first.
-// Once a frame: out of line, it leaves the levels short where `hear` stands in a loop.
+// Called once a frame: out of line, so that a loop that calls `hear` for each level stays short.
 #[cold]
 #[inline(never)]
 #[tactic(auto, unfolding(model::specs::Reading::crc_right))]
