@@ -11,7 +11,7 @@ use frame::{
 use model::worked_examples;
 use order::{Burst, CutOrder, Delivery, deliver_disturbed};
 
-/// An order's message, of which all is told.
+/// An order's message, split once into header and data, and told step by step.
 #[derive(Drop)]
 pub(crate) struct Story<'a> {
     rt: &'a HostRuntime,
